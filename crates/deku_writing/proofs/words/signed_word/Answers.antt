@@ -16,5 +16,5 @@ returns c =
     let narrow : to_z w64 (of_z w64 c.args.value) ≡ c.args.value = to_z-of_z w64 c.args.value c.ranges.value in
     field_word c.args.number_type c.args.layout c.args.order _ c.low_bits-lowest.result _ (record { some = w.some; few = w.few; below = n.below }) w.wide w.order w.ok n.back
     (λ fits.
-        let same : of_z w128 c.sign_extend.result ≡ of_z w128 (to_z w64 (of_z w64 c.args.value)) = search (rules, fits) in
-        rw c.requires.signed (sym c.sign_extend.ensures ∙ same_number c.sign_extend.result c.args.value (search rules) (search rules) (same ∙ ap (of_z w128) narrow)))
+    let same : of_z w128 c.sign_extend.result ≡ of_z w128 (to_z w64 (of_z w64 c.args.value)) = search (rules, fits) in
+    rw c.requires.signed (sym c.sign_extend.ensures ∙ same_number c.sign_extend.result c.args.value (search rules) (search rules) (same ∙ ap (of_z w128) narrow)))
