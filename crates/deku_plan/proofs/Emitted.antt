@@ -50,6 +50,7 @@ value_goes : (f : Field) (v : Number) (st : Step) (T R : List ℕ) (P : Pending)
     → WritesItem (item f v) false (Going (sink_at T R P) c) (Ok tt)
     (Going (sink_at (T ++ (append Msb0 (value_bits st.width v) P).bytes) (drop (length (append Msb0 (value_bits st.width v) P).bytes) R) (append Msb0 (value_bits st.width v) P).pending)
     (c + 8 * length (append Msb0 (value_bits st.width v) P).bytes))
+unfolding shown
 value_goes f (Signed z) st T R P c is high fits counted room = absurd fits
 value_goes f (Unsigned n) st T R P c is high fits counted room =
     unbroken {f = sound} {g = sound} refl refl
