@@ -96,6 +96,7 @@ pub fn read_counted<T: DekuReader<()>, R: Source>(
     ensures early { OnOk result (T.no_read_ahead tt → NoReadAhead R.known reader.old reader.new) }
 {
     match count {
+        Some(0) => Ok(Vec::new(reader.alloc())), // without a call
         Some(count) => Vec::from_reader_with_ctx(reader, (Limit::new_count(count), ())),
         None => Err(DekuError::Parse("head without a count")),
     }

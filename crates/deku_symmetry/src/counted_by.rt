@@ -100,8 +100,7 @@ impl<P: DekuReader<()>, C: CountOf<P>, T: DekuReader<()>> DekuReader<()> for Cou
     #[inline(always)]
     fn from_reader_with_ctx<R: Source>(reader: &mut Reader<R>, c: ()) -> Result<Self, DekuError> {
         let head = P::from_reader_with_ctx(reader, c)?;
-        let items = read_counted::<T, R>(reader, C::count(&head))?;
-        Ok(CountedBy::new(head, items))
+        read_counted(reader, C::count(&head)).map(|items| CountedBy::new(head, items))
     }
 }
 
