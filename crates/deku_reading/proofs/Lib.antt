@@ -9,5 +9,6 @@ pub mod Collecting
 pub mod Bytes
 pub mod Cutting
 pub mod OfBits
+pub mod CuttingEach
 pub mod Ahead
 pub mod ByteRuns

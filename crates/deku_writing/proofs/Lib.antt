@@ -1,4 +1,5 @@
 pub mod ByteRuns
 pub mod WritingEach
+pub mod WordsEach
 pub mod WritingTwo
 pub mod WordsJoined

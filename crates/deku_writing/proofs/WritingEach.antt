@@ -15,7 +15,7 @@ next_of : {V : Type 0} (vs : List V) (i : ℕ) (v : V) → i < length vs → v �
 next_of vs i v l e = drop_more vs i v l ∙ ap (λ x. x ∷ drop (i + 1) vs) (sym e)
 
 -- ---- some items, and then others
-each_then : {A V : Type 0} (m : V → Meaning A (Unit {0})) (xs ys : List V) (b : Bool) (s t : Standing A) (r : Result (Unit {0}) DekuError) (u : Standing A)
+pub each_then : {A V : Type 0} (m : V → Meaning A (Unit {0})) (xs ys : List V) (b : Bool) (s t : Standing A) (r : Result (Unit {0}) DekuError) (u : Standing A)
     → WritesEach m xs false s (Ok tt) t → WritesEach m ys b t r u → WritesEach m (xs ++ ys) b s r u
 each_then m [] ys b s t r u Answered q = q
 each_then m (x ∷ xs) ys b s t r u (Second v w p rest) q = Second v w p (each_then m xs ys b w t r u rest q)

@@ -1,11 +1,16 @@
-//! Arrays: a fixed number of items, in order.
+//! Arrays: a fixed number of items, in order. If a few items are all made from words, and their
+//! bits are in memory, they are cut from one number.
 
-ghost use Rattle.std.specs.Prelude.{◌≡◌, ℕ, List, Option, Some, map, length, OnOk, IfOk};
+ghost use Rattle.std.specs.Prelude.{◌≡◌, ◌<◌, ◌≤◌, ◌^◌, ℕ, List, Option, Some, map, length, OnOk, IfOk, IfSome};
+ghost use Rattle.deku_bits.specs.Outcomes.{Mapped};
 ghost use Rattle.deku_bits.specs.ReaderCalls.{Reads, filling};
+ghost use Rattle.deku_reading.specs.Cutting.{IsCutFrom};
 ghost use Rattle.deku_reading.specs.Early.{NoReadAhead};
 ghost use Rattle.deku_reading.specs.Lists.{ReadsTimes, Seen};
 
+use crate::items::{Items, try_items};
 use crate::traits::DekuReader;
+use deku_bits::ctx::Order;
 use deku_bits::device::Source;
 use deku_bits::error::DekuError;
 use deku_bits::reader::Reader;
@@ -48,6 +53,29 @@ pub trait ArrayLike: Drop {
         ensures early { OnOk result (Self.Element.DekuReader.no_read_ahead ctx
             → NoReadAhead R.known reader.old reader.new) };
 
+    /// Cuts an element for each slot from the first bits of a word. Returns how many these bits are.
+    ///
+    /// `None` if the bits are more, if there are no elements, or more than 16, and if elements are
+    /// not made from words in this order and under this context. What is then in the slots is not
+    /// stated.
+    fn cut<C: Copy>(
+        slots: &mut Self::Slots,
+        word: u64,
+        room: usize,
+        order: Order,
+        ctx: &C,
+    ) -> Option<usize>
+    where
+        Self: Sized,
+        Self::Element: DekuReader<C>,
+        requires few { room ≤ 64 }
+        requires below { word < 2 ^ room }
+        requires slots { length (slots_of slots.old) ≡ count }
+        ensures { IfSome result (λ n. (xs : List Self.Element)
+            × IsCutFrom (ReadsTimes count (Self.Element.DekuReader.meaning ctx.now)) order word room
+            xs n
+            × (length xs ≡ count) × (slots_of slots.new ≡ map Some xs)) };
+
     /// The elements of slots that are all full.
     fn turned(slots: Self::Slots) -> Self
     where
@@ -68,11 +96,67 @@ where
 
     ghost meaning = { λ c. Seen X.elements_of (ReadsTimes X.count (X.Element.meaning c)) };
 
+    #[inline(always)]
     fn from_reader_with_ctx<R: Source>(reader: &mut Reader<R>, ctx: C) -> Result<X, DekuError> {
-        let mut slots = X::empty();
-        X::fill(&mut slots, reader, ctx)?;
-        Ok(X::turned(slots))
+        if let Some(row) = try_items(reader, ctx) {
+            let Row(items) = row?;
+            return Ok(items);
+        }
+        read_slots(reader, ctx)
     }
+
+    #[inline]
+    fn from_word(word: u64, room: usize, order: Order, ctx: &C) -> Option<(X, usize)> {
+        let mut slots = X::empty();
+        let bits = X::cut(&mut slots, word, room, order, ctx)?;
+        Some((X::turned(slots), bits))
+    }
+}
+
+// An array, as one item.
+#[derive(Drop)]
+pub(crate) struct Row<X>(pub(crate) X);
+
+impl<C: Copy, X: ArrayLike> Items<C> for Row<X>
+where
+    X::Element: DekuReader<C>,
+{
+    ghost accepts = { X.Element.accepts };
+
+    ghost no_read_ahead = { X.Element.no_read_ahead };
+
+    ghost meaning = { λ c. Mapped (λ a. record { 0 = a })
+        (Seen X.elements_of (ReadsTimes X.count (X.Element.meaning c))) };
+
+    #[inline]
+    fn from_word(word: u64, room: usize, order: Order, ctx: &C) -> Option<(Self, usize)> {
+        let (items, bits) = X::from_word(word, room, order, ctx)?;
+        Some((Row(items), bits))
+    }
+
+    fn each<R: Source>(reader: &mut Reader<R>, ctx: C) -> Result<Self, DekuError> {
+        let items = read_slots(reader, ctx)?;
+        Ok(Row(items))
+    }
+}
+
+// Reads the elements one by one.
+#[inline(always)]
+fn read_slots<C: Copy, X: ArrayLike, R: Source>(
+    reader: &mut Reader<R>,
+    ctx: C,
+) -> Result<X, DekuError>
+where
+    X::Element: DekuReader<C>,
+    requires { X.Element.DekuReader.accepts ctx }
+    ensures reads { Reads R.known (Seen X.elements_of (ReadsTimes X.count
+        (X.Element.DekuReader.meaning ctx))) reader.old result reader.new }
+    ensures early { OnOk result (X.Element.DekuReader.no_read_ahead ctx
+        → NoReadAhead R.known reader.old reader.new) }
+{
+    let mut slots = X::empty();
+    X::fill(&mut slots, reader, ctx)?;
+    Ok(X::turned(slots))
 }
 
 impl<T: Drop, const N: usize> ArrayLike for [T; N] {
@@ -90,6 +174,7 @@ impl<T: Drop, const N: usize> ArrayLike for [T; N] {
         array::from_fn(|_| None)
     }
 
+    #[inline(always)]
     fn fill<C: Copy, R: Source>(
         slots: &mut [Option<T>; N],
         reader: &mut Reader<R>,
@@ -102,6 +187,36 @@ impl<T: Drop, const N: usize> ArrayLike for [T; N] {
             slots[place] = Some(T::from_reader_with_ctx(reader, ctx)?);
         }
         Ok(())
+    }
+
+    #[inline]
+    fn cut<C: Copy>(
+        slots: &mut [Option<T>; N],
+        word: u64,
+        room: usize,
+        order: Order,
+        ctx: &C,
+    ) -> Option<usize>
+    where
+        T: DekuReader<C>,
+    {
+        // The compiler folds this for each type, and lays out the loop below for so few items.
+        let (_, width) = T::from_word(word, room, order, ctx)?;
+        let count = slots.len();
+        if count == 0 || count > 16 || width > room / count {
+            return None;
+        }
+        let (mut rest, mut left) = (word, room);
+        for place in 0..count {
+            let (item, bits) = T::from_word(rest, left, order, ctx)?;
+            slots[place] = Some(item);
+            left -= bits;
+            rest = match order {
+                Order::Msb0 => rest % (1 << left),
+                Order::Lsb0 => (rest >> (bits - 1)) >> 1,
+            };
+        }
+        Some(room - left)
     }
 
     fn turned(slots: [Option<T>; N]) -> [T; N] {

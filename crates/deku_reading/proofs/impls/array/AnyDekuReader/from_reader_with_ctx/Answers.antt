@@ -1,15 +1,13 @@
-use Rattle.std.proofs.Common.{sym, ◌∙◌}
-use Rattle.std.proofs.lemmas.Result.{err_from_is_err_and}
-use Rattle.deku_reading.proofs.Slots.{same_items, seen_ok, seen_err}
+use Rattle.deku_bits.proofs.Handing.{passed_on}
+use Rattle.deku_reading.proofs.Cutting.{turned}
+use Rattle.deku_reading.proofs.CuttingEach.{row_turned}
 use Rattle.deku_reading.proofs.impls.array.AnyDekuReader.from_reader_with_ctx.Goals as goal
 
+pub returns-in_err-items-clause-reads : goal.returns-in_err-items-clause-reads
+returns-in_err-items-clause-reads g c = passed_on _ c.from_residual.ensures.1 (turned row_turned (rw c.in_err-items.was at c.in-Some.ensures.reads))
+
+pub returns-in-Some-clause-reads : goal.returns-in-Some-clause-reads
+returns-in-Some-clause-reads g c = turned row_turned (rw c.in_ok-items.was at c.in-Some.ensures.reads)
+
 pub returns-clause-reads : goal.returns-clause-reads
-returns-clause-reads g c = let h = c.in_ok-fill.ensures.reads in seen_ok g.X.ArrayLike.elements_of (same_items _ _ (sym h.2.1 ∙ c.turned.ensures)) h.1
-
-pub returns-in_err-fill-clause-reads : goal.returns-in_err-fill-clause-reads
-returns-in_err-fill-clause-reads g c =
-    let p = err_from_is_err_and c.from_residual.result c.from_residual.ensures.1 in
-    rw (p.1, p.2) (seen_err g.X.ArrayLike.elements_of c.in_err-fill.ensures.reads.1)
-
-pub returns-clause-early : goal.returns-clause-early
-returns-clause-early g c = c.in_ok-fill.ensures.early
+returns-clause-reads g c = rw (← c.in_default.ensures.stays) c.read_slots.ensures.reads
