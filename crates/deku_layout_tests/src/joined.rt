@@ -21,10 +21,10 @@ use std::net::Ipv4Addr;
 use std::test::Fail;
 
 // The most items of a tuple.
-const MOST: usize = 11;
+pub(crate) const MOST: usize = 11;
 
 // A tuple of numbers.
-trait Numbers: DekuReader<()> + DekuWriter<()> {
+pub(crate) trait Numbers: DekuReader<()> + DekuWriter<()> {
     // The order of its bits.
     fn order() -> Order {
         Msb0
@@ -43,7 +43,7 @@ trait Numbers: DekuReader<()> + DekuWriter<()> {
 }
 
 // The numbers in front of zeros.
-fn and_zeros(front: &[i128]) -> [i128; MOST] {
+pub(crate) fn and_zeros(front: &[i128]) -> [i128; MOST] {
     let mut numbers = [0; MOST];
     for (number, item) in numbers.iter_mut().zip(front) {
         *number = *item;
@@ -52,7 +52,7 @@ fn and_zeros(front: &[i128]) -> [i128; MOST] {
 }
 
 // The widths in front of zeros.
-fn and_none(front: &[(usize, Endian)]) -> [(usize, Endian); MOST] {
+pub(crate) fn and_none(front: &[(usize, Endian)]) -> [(usize, Endian); MOST] {
     let mut items = [(0, Big); MOST];
     for (item, width) in items.iter_mut().zip(front) {
         *item = *width;
@@ -246,173 +246,6 @@ impl Numbers for Bytes {
             self.1.0 as i128,
             self.2 as i128,
             self.3.0 as i128,
-        ])
-    }
-}
-
-// The numbers of bytes.
-fn of_bytes(bytes: &[u8]) -> [i128; MOST] {
-    let mut numbers = [0; MOST];
-    for (number, byte) in numbers.iter_mut().zip(bytes) {
-        *number = *byte as i128;
-    }
-    numbers
-}
-
-// An array that is a number by itself.
-type Four = [u8; 4];
-
-impl Numbers for Four {
-    fn items() -> [(usize, Endian); MOST] {
-        and_none(&[(8, Big); 4])
-    }
-
-    fn numbers(&self) -> [i128; MOST] {
-        of_bytes(self)
-    }
-}
-
-// An array of as many bits as one number has.
-type Eight = [u8; 8];
-
-impl Numbers for Eight {
-    fn items() -> [(usize, Endian); MOST] {
-        and_none(&[(8, Big); 8])
-    }
-
-    fn numbers(&self) -> [i128; MOST] {
-        of_bytes(self)
-    }
-}
-
-// One byte more, so it is no number.
-type Nine = [u8; 9];
-
-impl Numbers for Nine {
-    fn items() -> [(usize, Endian); MOST] {
-        and_none(&[(8, Big); 9])
-    }
-
-    fn numbers(&self) -> [i128; MOST] {
-        of_bytes(self)
-    }
-}
-
-// One item of all bits.
-type One = [Lsb<u64, 64>; 1];
-
-impl Numbers for One {
-    fn order() -> Order {
-        Lsb0
-    }
-
-    fn items() -> [(usize, Endian); MOST] {
-        and_none(&[(64, Little)])
-    }
-
-    fn numbers(&self) -> [i128; MOST] {
-        and_zeros(&[self[0].0 as i128])
-    }
-}
-
-// Arrays between numbers: of bytes, and of arrays.
-type Arrays = (
-    [u8; 2],
-    Msb<u8, 3>,
-    [[Msb<u8, 5>; 2]; 2],
-    Le<u16>,
-    [Be<u8>; 1],
-);
-
-impl Numbers for Arrays {
-    fn items() -> [(usize, Endian); MOST] {
-        and_none(&[
-            (8, Big),
-            (8, Big),
-            (3, Big),
-            (5, Big),
-            (5, Big),
-            (5, Big),
-            (5, Big),
-            (16, Little),
-            (8, Big),
-        ])
-    }
-
-    fn numbers(&self) -> [i128; MOST] {
-        let [[c, d], [e, f]] = &self.2;
-        and_zeros(&[
-            self.0[0] as i128,
-            self.0[1] as i128,
-            self.1.0 as i128,
-            c.0 as i128,
-            d.0 as i128,
-            e.0 as i128,
-            f.0 as i128,
-            self.3.0 as i128,
-            self.4[0].0 as i128,
-        ])
-    }
-}
-
-// An array without items, which is no number, and one before a number.
-type Empty = ([u8; 0], [Msb<u8, 7>; 3], Msb<u16, 9>);
-
-impl Numbers for Empty {
-    fn items() -> [(usize, Endian); MOST] {
-        and_none(&[(7, Big), (7, Big), (7, Big), (9, Big)])
-    }
-
-    fn numbers(&self) -> [i128; MOST] {
-        let [a, b, c] = &self.1;
-        and_zeros(&[a.0 as i128, b.0 as i128, c.0 as i128, self.2.0 as i128])
-    }
-}
-
-// Arrays of low bits with a sign, and of bytes in reverse.
-type LowArrays = (
-    [Lsb<i16, 12>; 3],
-    Lsb<i8, 4>,
-    [LsbBe<i16, 16>; 1],
-    [Lsb<i8, 1>; 4],
-);
-
-impl Numbers for LowArrays {
-    fn order() -> Order {
-        Lsb0
-    }
-
-    fn signed() -> bool {
-        true
-    }
-
-    fn items() -> [(usize, Endian); MOST] {
-        and_none(&[
-            (12, Little),
-            (12, Little),
-            (12, Little),
-            (4, Little),
-            (16, Big),
-            (1, Little),
-            (1, Little),
-            (1, Little),
-            (1, Little),
-        ])
-    }
-
-    fn numbers(&self) -> [i128; MOST] {
-        let [a, b, c] = &self.0;
-        let [f, g, h, i] = &self.3;
-        and_zeros(&[
-            a.0 as i128,
-            b.0 as i128,
-            c.0 as i128,
-            self.1.0 as i128,
-            self.2[0].0 as i128,
-            f.0 as i128,
-            g.0 as i128,
-            h.0 as i128,
-            i.0 as i128,
         ])
     }
 }
@@ -614,7 +447,7 @@ fn expect_lengths<T: Numbers>(alloc: Global, bytes: &[u8; 17]) -> Result<(), Fai
     Ok(())
 }
 
-fn expect_samples<T: Numbers>(alloc: Global) -> Result<(), Fail>
+pub(crate) fn expect_samples<T: Numbers>(alloc: Global) -> Result<(), Fail>
     requires reads { T.DekuReader.accepts tt }
     requires writes { T.DekuWriter.accepts tt }
 {
@@ -658,25 +491,6 @@ fn of_low_bits_with_a_sign(rt: HostRuntime) -> Result<(), Fail> {
 #[test]
 fn of_bytes_with_a_sign(rt: HostRuntime) -> Result<(), Fail> {
     expect_samples::<Bytes>(rt.alloc())
-}
-
-#[test]
-fn of_arrays_of_bytes(rt: HostRuntime) -> Result<(), Fail> {
-    expect_samples::<Four>(rt.alloc())?;
-    expect_samples::<Eight>(rt.alloc())?;
-    expect_samples::<Nine>(rt.alloc())
-}
-
-#[test]
-fn of_arrays_and_numbers(rt: HostRuntime) -> Result<(), Fail> {
-    expect_samples::<Arrays>(rt.alloc())?;
-    expect_samples::<Empty>(rt.alloc())
-}
-
-#[test]
-fn of_arrays_of_low_bits(rt: HostRuntime) -> Result<(), Fail> {
-    expect_samples::<One>(rt.alloc())?;
-    expect_samples::<LowArrays>(rt.alloc())
 }
 
 #[test]
@@ -771,42 +585,6 @@ fn words_make_values_with_a_sign() -> Result<(), Fail> {
         &i64::from_word(1 << 63, 64, Msb0, &Big),
         &Some((i64::MIN, 64)),
     )
-}
-
-#[test]
-fn words_make_arrays() -> Result<(), Fail> {
-    same(
-        &"three bytes of four",
-        &<[u8; 3]>::from_word(0x0102_0304, 32, Msb0, &Big),
-        &Some(([1, 2, 3], 24)),
-    )?;
-    let low = (Little, BitSize(12), Lsb0);
-    same(
-        &"low bits",
-        &<[u16; 2]>::from_word(0xABC_123, 24, Lsb0, &low),
-        &Some(([0x123, 0xABC], 24)),
-    )?;
-    same(
-        &"a bit less",
-        &<[u16; 2]>::from_word(0x3BC_123, 23, Lsb0, &low),
-        &None,
-    )?;
-    same(
-        &"in the other order",
-        &<[u16; 2]>::from_word(0xABC_123, 24, Msb0, &low),
-        &None,
-    )?;
-    same(
-        &"all low bits",
-        &<[u64; 1]>::from_word(u64::MAX, 64, Lsb0, &(Little, Lsb0)),
-        &Some(([u64::MAX], 64)),
-    )?;
-    same(
-        &"nine bytes",
-        &<[u8; 9]>::from_word(0, 64, Msb0, &Big),
-        &None,
-    )?;
-    same(&"no bytes", &<[u8; 0]>::from_word(0, 64, Msb0, &Big), &None)
 }
 
 #[test]

@@ -3,10 +3,11 @@
 ghost use Rattle.std.specs.Prelude.{◌≡◌, ℕ, List, MatchBool};
 ghost use Rattle.deku_pieces.specs.Asserting.{ReadsMagic};
 
+use deku::ctx::Order;
 use deku::device::{Sink, Source};
 use deku::reader::Reader;
 use deku::writer::Writer;
-use deku::{DekuError, DekuReader, DekuWriter, read_item};
+use deku::{DekuError, DekuReader, DekuWriter, Word, read_item};
 use std::marker::PhantomData;
 
 /// The only value of a part, and the text of the error for another value.
@@ -110,5 +111,10 @@ impl<P: DekuReader<()> + DekuWriter<()>, C: Constant<P>> DekuWriter<()> for Magi
     #[inline(always)]
     fn to_writer<W: Sink>(&self, writer: &mut Writer<W>, _ctx: ()) -> Result<(), DekuError> {
         C::value().to_writer(writer, ())
+    }
+
+    #[inline]
+    fn to_word(&self, order: Order, _ctx: &()) -> Option<Word> {
+        C::value().to_word(order, &())
     }
 }

@@ -53,7 +53,7 @@ pub trait ArrayLike: Drop {
         ensures early { OnOk result (Self.Element.DekuReader.no_read_ahead ctx
             → NoReadAhead R.known reader.old reader.new) };
 
-    /// Cuts an element for each slot from the first bits of a word. Returns how many these bits are.
+    /// Cuts an element for each slot from the first bits of a word. Returns how many bits that is.
     ///
     /// `None` if the bits are more, if there are no elements, or more than 16, and if elements are
     /// not made from words in this order and under this context. What is then in the slots is not
@@ -121,9 +121,9 @@ impl<C: Copy, X: ArrayLike> Items<C> for Row<X>
 where
     X::Element: DekuReader<C>,
 {
-    ghost accepts = { X.Element.accepts };
+    ghost accepts = { λ c. X.Element.accepts c };
 
-    ghost no_read_ahead = { X.Element.no_read_ahead };
+    ghost no_read_ahead = { λ c. X.Element.no_read_ahead c };
 
     ghost meaning = { λ c. Mapped (λ a. record { 0 = a })
         (Seen X.elements_of (ReadsTimes X.count (X.Element.meaning c))) };
