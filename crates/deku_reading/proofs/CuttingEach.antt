@@ -1,5 +1,5 @@
 -- Items that are cut from a word one after the other.
-use Rattle.std.proofs.Common.{◌≡◌, ℕ, zero, suc, ◌+◌, ◌-◌, ◌/◌, ◌%◌, ◌*◌, ◌^◌, ◌<◌, ◌≤◌, Bool, false, List, [], ◌∷◌, ◌++◌, length, map, take, set, Option, Some, Result, Ok, Err, refl, sym, ap, ap₂, ◌∙◌, subst, arith, length-append, length-set}
+use Rattle.std.proofs.Common.{◌≡◌, ℕ, zero, suc, ◌+◌, ◌-◌, ◌/◌, ◌%◌, ◌*◌, ◌^◌, ◌<◌, ◌≤◌, false, List, [], ◌∷◌, ◌++◌, length, map, take, set, Option, Some, Result, Ok, Err, refl, sym, ap, ap₂, ◌∙◌, subst, arith, length-append, length-set}
 use Rattle.std.proofs.lemmas.List.{take_more_set, take_all, map-append}
 use Rattle.std.proofs.lemmas.Nat.{shr-shr}
 use Rattle.deku_bits.specs.declared.ctx.Order.{Order}
@@ -12,10 +12,9 @@ use Rattle.deku_bits.specs.ReaderCalls.{TakesBits}
 use Rattle.deku_bits.specs.Bits.{bits_of, facing}
 use Rattle.deku_num.specs.Cutting.{front, behind}
 use Rattle.deku_meanings.specs.Composing.{Answer, Answered, Then, Second, First, JoinedBy}
-use Rattle.deku_reading.specs.declared.impls.array.Row.{Row}
 use Rattle.deku_reading.specs.Cutting.{IsReadOf, IsOfNumber, IsCutFrom}
 use Rattle.deku_reading.specs.Lists.{ReadsTimes, Seen, on_value}
-use Rattle.deku_reading.proofs.Cutting.{no_value, ok_same, answer_is, joined_cut, Turned, put}
+use Rattle.deku_reading.proofs.Cutting.{no_value, ok_same, answer_is, joined_cut}
 use Rattle.deku_reading.proofs.OfBits.{mapped_cut}
 
 -- ---- meanings that allow the same, where no device fails
@@ -139,11 +138,3 @@ module _ {V W : Type 0} (h : V → W) (m : Meaning (Option Stream) W) (o : Order
   pub seen_cut : {word room : ℕ} {v : V} {w : W} {b : ℕ} → w ≡ h v → IsCutFrom m o word room w b → IsCutFrom (Seen h m) o word room v b
   seen_cut {word} {room} {v} {w} {b} e is =
       record { some = is.some; within = is.within; number = seen_number b is.number; reads = seen_read b (front o word b (room - b)) v w e is.reads }
-
--- the array of a row
-pub row_turned : {A V : Type 0} {m : Meaning A V} → Turned (λ (l : Row V). l.0) (Mapped (λ v. record { 0 = v }) m) m
-row_turned {A} {V} {m} = record { turn = turn }
-  where
-    turn : (b : Bool) (s : Standing A) (r : Result (Row V) DekuError) (u : Standing A) → Mapped (λ v. record { 0 = v }) m b s r u → m b s (put (λ (l : Row V). l.0) r) u
-    turn b s r u (Value v p e) = rw e p
-    turn b s r u (Refusal x p e) = rw e p

@@ -1,7 +1,19 @@
+use Rattle.std.proofs.Common.{Bool, Result}
+use Rattle.deku_bits.specs.declared.error.DekuError.{DekuError}
+use Rattle.deku_bits.specs.Outcomes.{Meaning, Mapped, Value, Refusal}
+use Rattle.deku_bits.specs.Standings.{Standing}
 use Rattle.deku_bits.proofs.Handing.{passed_on}
-use Rattle.deku_reading.proofs.Cutting.{turned}
-use Rattle.deku_reading.proofs.CuttingEach.{row_turned}
+use Rattle.deku_reading.specs.declared.impls.array.Row.{Row}
+use Rattle.deku_reading.proofs.Cutting.{Turned, put, turned}
 use Rattle.deku_reading.proofs.impls.array.AnyDekuReader.from_reader_with_ctx.Goals as goal
+
+-- The array of a row.
+row_turned : {A V : Type 0} {m : Meaning A V} → Turned (λ (l : Row V). l.0) (Mapped (λ v. record { 0 = v }) m) m
+row_turned {A} {V} {m} = record { turn = turn }
+  where
+    turn : (b : Bool) (s : Standing A) (r : Result (Row V) DekuError) (u : Standing A) → Mapped (λ v. record { 0 = v }) m b s r u → m b s (put (λ (l : Row V). l.0) r) u
+    turn b s r u (Value v p e) = rw e p
+    turn b s r u (Refusal x p e) = rw e p
 
 pub returns-in_err-items-clause-reads : goal.returns-in_err-items-clause-reads
 returns-in_err-items-clause-reads g c = passed_on _ c.from_residual.ensures.1 (turned row_turned (rw c.in_err-items.was at c.in-Some.ensures.reads))
