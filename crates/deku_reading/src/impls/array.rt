@@ -31,6 +31,10 @@ pub trait ArrayLike: Drop {
 
     ghost elements_of: { Self → List Self.Element };
 
+    /// How many elements there are.
+    fn len() -> usize
+        ensures { result ≡ count };
+
     /// Makes slots without elements.
     fn empty() -> Self::Slots
         ensures { length (slots_of result) ≡ count };
@@ -98,15 +102,17 @@ where
 
     #[inline(always)]
     fn from_reader_with_ctx<R: Source>(reader: &mut Reader<R>, ctx: C) -> Result<X, DekuError> {
-        if let Some(row) = try_items(reader, ctx) {
-            let Row(items) = row?;
-            return Ok(items);
+        if X::len() <= 16 {
+            return read_short(reader, ctx);
         }
         read_slots(reader, ctx)
     }
 
     #[inline]
     fn from_word(word: u64, room: usize, order: Order, ctx: &C) -> Option<(X, usize)> {
+        if X::len() > 16 {
+            return None;
+        }
         let mut slots = X::empty();
         let bits = X::cut(&mut slots, word, room, order, ctx)?;
         Some((X::turned(slots), bits))
@@ -140,6 +146,28 @@ where
     }
 }
 
+// Reads the elements from one word, or one by one. A long array does not get here, since its
+// elements would be on the stack several times.
+#[inline]
+fn read_short<C: Copy, X: ArrayLike, R: Source>(
+    reader: &mut Reader<R>,
+    ctx: C,
+) -> Result<X, DekuError>
+where
+    X::Element: DekuReader<C>,
+    requires { X.Element.DekuReader.accepts ctx }
+    ensures reads { Reads R.known (Seen X.elements_of (ReadsTimes X.count
+        (X.Element.DekuReader.meaning ctx))) reader.old result reader.new }
+    ensures early { OnOk result (X.Element.DekuReader.no_read_ahead ctx
+        → NoReadAhead R.known reader.old reader.new) }
+{
+    if let Some(row) = try_items(reader, ctx) {
+        let Row(items) = row?;
+        return Ok(items);
+    }
+    read_slots(reader, ctx)
+}
+
 // Reads the elements one by one.
 #[inline(always)]
 fn read_slots<C: Copy, X: ArrayLike, R: Source>(
@@ -169,6 +197,11 @@ impl<T: Drop, const N: usize> ArrayLike for [T; N] {
     ghost slots_of = { λ slots. slots };
 
     ghost elements_of = { λ items. items };
+
+    #[inline(always)]
+    fn len() -> usize {
+        N
+    }
 
     fn empty() -> [Option<T>; N] {
         array::from_fn(|_| None)

@@ -5,7 +5,7 @@ use Rattle.deku_bits.specs.Standings.{Standing}
 use Rattle.deku_bits.proofs.Handing.{passed_on}
 use Rattle.deku_reading.specs.declared.impls.array.Row.{Row}
 use Rattle.deku_reading.proofs.Cutting.{Turned, put, turned}
-use Rattle.deku_reading.proofs.impls.array.AnyDekuReader.from_reader_with_ctx.Goals as goal
+use Rattle.deku_reading.proofs.impls.array.read_short.Goals as goal
 
 -- The array of a row.
 row_turned : {A V : Type 0} {m : Meaning A V} → Turned (λ (l : Row V). l.0) (Mapped (λ v. record { 0 = v }) m) m
