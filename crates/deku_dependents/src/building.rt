@@ -130,7 +130,7 @@ impl<'b, 'a> Builder<'b, 'a> {
             let wrong = Stop::wrong(
                 last.span,
                 "a field after a list or an option that has another one in front",
-                "move the list or the option to the end",
+                "put the fields before this one into a struct, or move the list or option last",
             );
             self.noted(wrong)?;
         } else if is_twice && self.owner == Owner::LentKind {
