@@ -1,7 +1,8 @@
 //! Arrays: a fixed number of items, in order. If a few items are all made from words, and their
 //! bits are in memory, they are cut from one number.
 
-ghost use Rattle.std.specs.Prelude.{◌≡◌, ◌<◌, ◌≤◌, ◌^◌, ℕ, List, Option, Some, map, length, OnOk, IfOk, IfSome};
+ghost use Rattle.std.specs.Prelude.{◌≡◌, ◌<◌, ◌≤◌, ◌^◌, ℕ, List, Option, Some, map, length};
+ghost use Rattle.std.specs.Prelude.{OnOk, IfOk, IfSome};
 ghost use Rattle.deku_bits.specs.Outcomes.{Mapped};
 ghost use Rattle.deku_bits.specs.ReaderCalls.{Reads, filling};
 ghost use Rattle.deku_reading.specs.Cutting.{IsCutFrom};
@@ -76,8 +77,8 @@ pub trait ArrayLike: Drop {
         requires below { word < 2 ^ room }
         requires slots { length (slots_of slots.old) ≡ count }
         ensures { IfSome result (λ n. (xs : List Self.Element)
-            × IsCutFrom (ReadsTimes count (Self.Element.DekuReader.meaning ctx.now)) order word room
-            xs n
+            × IsCutFrom (ReadsTimes count (Self.Element.DekuReader.meaning ctx.now)) order word
+            room xs n
             × (length xs ≡ count) × (slots_of slots.new ≡ map Some xs)) };
 
     /// The elements of slots that are all full.
