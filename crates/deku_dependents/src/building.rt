@@ -11,7 +11,10 @@ use deku_markers::computing::{Computed, Computer};
 use deku_markers::following::Dependent;
 use deku_markers::marker;
 use deku_markers::marker::{Amount, Marker};
-use deku_markers::part::{Named, Owner, Part, Place, asserted, following, leaf, rest, tuple};
+use deku_markers::part::{
+    Named, Owner, Part, Place, asserted, following, leaf, lifetimes_of, rest, tuple,
+};
+use deku_markers::whole::Whole;
 use deku_texts::document::Text;
 use deku_texts::records::Records;
 use deku_texts::refusal::Stop;
@@ -40,10 +43,8 @@ pub struct Builder<'b, 'a> {
     pub complaints: Vec<Complaint<'a>>,
     /// The structs in front of the record, and where their fields are in their parts.
     pub structs: Vec<(&'a str, &'a [Place<'a>])>,
-    // Whether its last part takes the rest of the input.
-    is_ended: bool,
-    // Whether a part lends memory in more than one place. It is never beside others.
-    is_nested: bool,
+    // The list up to the end of the input, which is its last part.
+    last: Option<Part<'a>>,
     // The count that the record does not keep, if the last field was one.
     temporary: Option<Temporary<'a>>,
 }
@@ -77,8 +78,7 @@ impl<'b, 'a> Builder<'b, 'a> {
             names: Vec::new(alloc),
             complaints: Vec::new(alloc),
             structs: Vec::new(alloc),
-            is_ended: false,
-            is_nested: false,
+            last: None,
             temporary: None,
         }
     }
@@ -125,15 +125,7 @@ impl<'b, 'a> Builder<'b, 'a> {
             let wrong = no_count(last);
             self.noted(wrong)?;
         }
-        let is_twice = self.is_nested || self.lent_from(0) > 1;
-        if self.is_nested && (self.is_ended || self.items.len() > 1) {
-            let wrong = Stop::wrong(
-                last.span,
-                "a field after a list or an option that has another one in front",
-                "put the fields before this one into a struct, or move the list or option last",
-            );
-            self.noted(wrong)?;
-        } else if is_twice && self.owner == Owner::LentKind {
+        if self.owner == Owner::LentKind && lifetimes_of(self.items.as_slice()) > 1 {
             let wrong = Stop::wrong(
                 last.span,
                 "a kind with two lists or options, or one of them and a number with a sign",
@@ -169,9 +161,9 @@ impl<'b, 'a> Builder<'b, 'a> {
     }
 
     /// All parts as one.
-    pub fn whole(&mut self) -> Result<Part<'a>, AllocError> {
+    pub fn whole(&mut self) -> Result<Whole<'a>, AllocError> {
         let items = std::mem::replace(&mut self.items, Vec::new(self.arena.alloc()));
-        tuple(self.arena, items.as_slice())
+        Whole::of(self.arena, items.as_slice(), self.last)
     }
 
     /// The part of a field alone.
@@ -183,7 +175,7 @@ impl<'b, 'a> Builder<'b, 'a> {
 
     fn field(&mut self, field: &Field<'a>, called: Named<'a>) -> Result<(), Stop<'a>> {
         self.named(field, called.name)?;
-        if self.is_ended {
+        if self.last.is_some() {
             return Stop::wrong(
                 field.span,
                 "a field after a list up to the end of the input",
@@ -211,7 +203,7 @@ impl<'b, 'a> Builder<'b, 'a> {
             self.magic(bytes, named, what, field.layout.order, field.span)?;
         }
         self.part(field, called, &said)?;
-        if self.is_ended && said.after > 0 {
+        if self.last.is_some() && said.after > 0 {
             return Stop::wrong(
                 field.span,
                 "padding after a list up to the end of the input",
@@ -382,11 +374,7 @@ impl<'b, 'a> Builder<'b, 'a> {
     // A list up to the end of the input.
     fn rest(&mut self, field: &Field<'a>, called: Named<'a>) -> Result<(), Stop<'a>> {
         let held = held_kind(self.arena, field)?;
-        self.is_nested = self.is_nested || self.lent_from(0) > 1;
-        let part = rest(self.arena, self.items.as_slice(), called, held)?;
-        self.items.clear();
-        self.items.push(part)?;
-        self.is_ended = true;
+        self.last = Some(rest(self.arena, called, held)?);
         Ok(())
     }
 
@@ -423,7 +411,7 @@ impl<'b, 'a> Builder<'b, 'a> {
     }
 
     /// The parts that hold the fields an expression names, as one; all parts, if several of them
-    /// lend memory, or if one does and more is added to it than a check.
+    /// lend memory, or if one does and more is added to it than a check. Then there is one part.
     pub(crate) fn head(
         &mut self,
         expression: &Expression<'a>,
@@ -432,7 +420,6 @@ impl<'b, 'a> Builder<'b, 'a> {
         let mut first = self.first_named(expression);
         let lent = self.lent_from(first);
         if lent > 1 || (lent == 1 && !is_checked) {
-            self.is_nested = true;
             first = 0;
         }
         let mut taken = Vec::new(self.arena.alloc());
@@ -460,7 +447,7 @@ impl<'b, 'a> Builder<'b, 'a> {
     // How many parts lend memory, from this one on.
     fn lent_from(&self, first: usize) -> usize {
         let parts = self.items.iter().skip(first);
-        parts.filter(|it| it.is_lent).count()
+        parts.filter(|it| it.is_lent()).count()
     }
 
     // The name of the type of parts. It is an alias if they are several.
@@ -490,7 +477,7 @@ impl<'b, 'a> Builder<'b, 'a> {
     ) -> Result<(&'a str, Option<&'a str>), AllocError> {
         let name = self.alias(part.texts.kind, field, "Head")?;
         part.texts.kind = Text::of(name);
-        if !part.is_lent {
+        if !part.is_lent() {
             part.texts.lent = Text::of(name);
             return Ok((name, None));
         }

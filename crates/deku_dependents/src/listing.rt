@@ -39,7 +39,7 @@ pub(crate) fn list_part<'a>(
 ) -> Result<Part<'a>, AllocError> {
     Ok(Part {
         texts: list_texts(arena, called, form)?,
-        is_lent: true,
+        lifetimes: 1,
         cut: None,
         fields: Fields::one(arena, called.name, None, ".items")?,
     })

@@ -276,7 +276,7 @@ fn local_id<'a>(
 fn reference<'a>(part: Part<'a>) -> &'a str {
     let field = match part.texts.value.as_word() {
         Some("()") => Some("&()"),
-        Some(word) if part.is_lent && !word.contains('(') => Some(word),
+        Some(word) if part.is_lent() && !word.contains('(') => Some(word),
         Some(word) => word.strip_prefix('*'),
         None => None,
     };
@@ -651,7 +651,7 @@ fn own<'a>(
 // Whether a pattern takes a kind apart down to its fields: memory and arrays cannot be moved out of
 // it by paths.
 fn is_taken_apart(kind: &Built<'_>) -> bool {
-    kind.part.is_lent || kind.case.fields.iter().any(is_array)
+    kind.part.is_lent() || kind.case.fields.iter().any(is_array)
 }
 
 // The value of the kinds that a kind of the enum stands for, of what its fields are.

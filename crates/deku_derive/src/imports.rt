@@ -271,7 +271,7 @@ fn kinds<'a>(
 
 const LINE: &str = "$line$\n";
 
-// The lines of ghost text, and those of code.
+// The lines of ghost text, and those of code. A clause is both.
 fn parted<'a>(arena: &'a Arena, text: &str) -> Result<(&'a str, &'a str), AllocError> {
     let mut term = String::new(arena.alloc());
     let mut code = String::new(arena.alloc());
@@ -279,8 +279,11 @@ fn parted<'a>(arena: &'a Arena, text: &str) -> Result<(&'a str, &'a str), AllocE
     let mut open = 0usize;
     for line in text.lines() {
         let trimmed = line.trim_start();
-        if open > 0 || trimmed.starts_with("ghost ") {
+        let is_ghost = open > 0 || trimmed.starts_with("ghost ");
+        if is_ghost || trimmed.starts_with("ensures ") {
             fill(&mut term, LINE, &[("line", line)])?;
+        }
+        if is_ghost {
             open = open.saturating_add(line.matches('{').count());
             open = open.saturating_sub(line.matches('}').count());
         } else if !trimmed.starts_with("//") {

@@ -7,5 +7,6 @@ mod enums;
 mod imports;
 pub mod making;
 pub mod printing;
+mod steps;
 mod structs;
 mod updates;

@@ -3,13 +3,14 @@
 use crate::enums::Built;
 use crate::imports::imports;
 use crate::structs::docs;
-use crate::{enums, structs};
+use crate::{enums, steps, structs};
 use deku_attributes::given::{given, is_given};
 use deku_attributes::model::{Case, Field, Form, Id, IdSource, Ids, Module, Record};
 use deku_dependents::building::{Builder, field_name};
 use deku_description::syntax::{Constant, Shape, Type};
 use deku_markers::marker::zeros;
 use deku_markers::part::{Owner, Place};
+use deku_markers::whole::Whole;
 use deku_texts::document::joined;
 use deku_texts::records::Records;
 use deku_texts::template::fill;
@@ -27,9 +28,9 @@ struct Printer<'b, 'a> {
     records: &'b Records<'b, 'a>,
     constants: &'b [Constant<'a>],
     out: String,
-    // What proves how its enum that holds memory is written, and the name of that enum.
+    // What proves how one of its types is written, and the name of that type.
     answers: String,
-    lent: &'a str,
+    proved: &'a str,
     // The names of its types.
     names: Vec<&'a str>,
     complaints: Vec<Complaint<'a>>,
@@ -54,7 +55,7 @@ pub struct Asked<'t> {
 pub struct Printed<'a> {
     /// The module.
     pub module: String,
-    /// What proves how its enum that holds memory is written. It is empty if there is none.
+    /// What proves how one of its types is written. It is empty if none needs it.
     pub answers: String,
     /// What prevents it.
     pub complaints: Vec<Complaint<'a>>,
@@ -83,7 +84,7 @@ pub fn print<'a>(
     let Printer {
         mut out,
         answers,
-        lent,
+        proved,
         complaints,
         ..
     } = printer;
@@ -93,7 +94,7 @@ pub fn print<'a>(
     if !module.docs.is_empty() {
         text.push_str("//!\n")?;
     }
-    origin(arena, &mut text, asked, lent)?;
+    origin(arena, &mut text, asked, proved)?;
     items(arena, &mut text, asked.path, module, out.as_str())?;
     Ok(Printed {
         module: text,
@@ -102,22 +103,26 @@ pub fn print<'a>(
     })
 }
 
+// What to write where the name of the module is needed.
+const NAMING: &'static str =
+    "print it with `-o crates/NAME/src/MODULE.rt`, or with `--module NAME::MODULE`";
+
 const ANSWERS: &str = "\
 //! What `derive --answers` prints is in
 //! `proofs/$module$$slash$$name$DekuWriterUnit/to_writer/Answers.antt`.
 ";
 
-// Appends where a module comes from, and where the proof is of its enum that holds memory.
+// Appends where a module comes from, and where the proof is of the type that needs one.
 fn origin<'a>(
     arena: &'a Arena,
     text: &mut String,
     asked: Asked<'_>,
-    lent: &'a str,
+    proved: &'a str,
 ) -> Result<(), AllocError> {
     let name = asked.file.rsplit('/').next().unwrap_or(asked.file);
     let flag = if asked.exports.is_some() { " --c" } else { "" };
     writeln!(text, "//! Printed by `derive{flag}` from `{name}`.")?;
-    if lent.is_empty() {
+    if proved.is_empty() {
         return Ok(());
     }
     let path = asked.path.unwrap_or("");
@@ -126,7 +131,7 @@ fn origin<'a>(
     let module = module.replace(arena.alloc(), ".", "/")?;
     let module = arena.keep(module.as_str())?;
     let slash = if module.is_empty() { "" } else { "/" };
-    let words = [("module", module), ("slash", slash), ("name", lent)];
+    let words = [("module", module), ("slash", slash), ("name", proved)];
     fill(text, ANSWERS, &words)
 }
 
@@ -175,7 +180,7 @@ impl<'b, 'a> Printer<'b, 'a> {
             constants,
             out: String::new(alloc),
             answers: String::new(alloc),
-            lent: "",
+            proved: "",
             names: Vec::new(alloc),
             complaints: Vec::new(alloc),
             structs: Vec::new(alloc),
@@ -326,6 +331,7 @@ impl<'b, 'a> Printer<'b, 'a> {
         )?;
         self.out.push_str(builder.markers.as_str())?;
         let whole = builder.whole()?;
+        self.stepped(record, whole, path)?;
         structs::implementation(
             self.arena,
             &mut self.out,
@@ -337,9 +343,46 @@ impl<'b, 'a> Printer<'b, 'a> {
             path,
         )?;
         if *shape == Shape::Named {
-            self.structs.push((record.name.text, whole.fields.places))?;
+            let places = whole.part.fields.places;
+            self.structs.push((record.name.text, places))?;
         }
         self.built(record, builder)
+    }
+
+    // Notes what proves how a struct is written, if it is written part by part.
+    fn stepped(
+        &mut self,
+        record: &Record<'a>,
+        whole: Whole<'a>,
+        path: Option<&str>,
+    ) -> Result<(), AllocError> {
+        if whole.steps.is_empty() {
+            return Ok(());
+        }
+        self.has_proof(record)?;
+        let Some(path) = path else {
+            return self.complain(
+                record.name,
+                "a struct that is written part by part needs the name of its module",
+                NAMING,
+            );
+        };
+        let path = self.arena.keep(path)?;
+        let name = record.name.text;
+        steps::answers(self.arena, &mut self.answers, path, name, whole)
+    }
+
+    // Notes a type whose writing needs a proof. A module has one.
+    fn has_proof(&mut self, record: &Record<'a>) -> Result<(), AllocError> {
+        if !self.proved.is_empty() {
+            self.complain(
+                record.name,
+                "a second type that needs a file of proofs",
+                "write it in a file of its own",
+            )?;
+        }
+        self.proved = record.name.text;
+        Ok(())
     }
 
     fn enumeration(
@@ -360,7 +403,7 @@ impl<'b, 'a> Printer<'b, 'a> {
             let mut builder = Builder::new(self.arena, self.records, self.constants, front, owner);
             let skipped = if kept.is_some() { 1 } else { 0 };
             builder.fields(case.fields, skipped)?;
-            let part = builder.whole()?;
+            let part = builder.whole()?.part;
             markers.push_str(builder.markers.as_str())?;
             self.built(record, builder)?;
             kinds.push(Built {
@@ -386,23 +429,14 @@ impl<'b, 'a> Printer<'b, 'a> {
             return Ok(Owner::Kind);
         }
         let ids = words::marker(self.arena, name, "", "Ids")?;
-        let refused = if self.has_name(ids) {
-            Some((
+        if self.has_name(ids) {
+            self.complain(
+                record.name,
                 "an enum whose ids have the name of another type",
                 "give it another name",
-            ))
-        } else if self.lent.is_empty() {
-            None
-        } else {
-            Some((
-                "a second enum that holds memory",
-                "write it in a file of its own",
-            ))
-        };
-        if let Some((message, help)) = refused {
-            self.complain(record.name, message, help)?;
+            )?;
         }
-        self.lent = name;
+        self.has_proof(record)?;
         self.names.push(ids)?;
         Ok(Owner::LentKind)
     }
@@ -430,10 +464,7 @@ impl<'b, 'a> Printer<'b, 'a> {
                 "write the magic on the field that holds the enum",
             ),
             None if cases.is_empty() => ("an enum without kinds has no values", "write a kind"),
-            None if path.is_none() => (
-                "an enum needs the name of its module",
-                "print it with `-o crates/NAME/src/MODULE.rt`, or with `--module NAME::MODULE`",
-            ),
+            None if path.is_none() => ("an enum needs the name of its module", NAMING),
             None => return Ok(()),
         };
         self.complain(record.name, message, help)

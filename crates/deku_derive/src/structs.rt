@@ -1,6 +1,7 @@
 //! Structs, as they are printed.
 
 use crate::choosing::there;
+use crate::steps::body;
 use crate::updates::update;
 use deku_attributes::given::chosen;
 use deku_attributes::model::{Field, Record};
@@ -8,6 +9,7 @@ use deku_dependents::building::field_name;
 use deku_dependents::temporary::is_temporary;
 use deku_description::syntax::{Shape, Type};
 use deku_markers::part::{Owner, Part};
+use deku_markers::whole::Whole;
 use deku_texts::document::{Form, Text, joined};
 use deku_texts::template::fill;
 use deku_texts::words::{quoted, snake};
@@ -125,31 +127,28 @@ pub(crate) fn implementation<'a>(
     shape: Shape,
     fields: &[Field<'a>],
     owner: Owner,
-    whole: Part<'a>,
+    whole: Whole<'a>,
     path: Option<&str>,
 ) -> Result<(), AllocError> {
     let name = record.name.text;
-    named(arena, out, name, whole.fields.names)?;
-    parts_alias(arena, out, name, "Parts", whole.texts.kind)?;
+    let part = whole.part;
+    named(arena, out, name, part.fields.names)?;
+    parts_alias(arena, out, name, "Parts", part.texts.kind)?;
     out.push_str("    ghost parts_of = { λ r. ")?;
-    whole.texts.term.print(out, 4, 3, false)?;
+    part.texts.term.print(out, 4, 3, false)?;
     out.push_str(" };\n\n    ghost record_of = { λ p. ")?;
-    record_of(arena, shape, fields, whole)?.print(out, 4, 3, false)?;
+    record_of(arena, shape, fields, part)?.print(out, 4, 3, false)?;
     out.push_str(" };\n\n")?;
-    from_parts(arena, out, record, shape, fields, whole)?;
+    from_parts(arena, out, record, shape, fields, part)?;
     there(arena, out, fields, path)?;
     if owner == Owner::Copied {
         let mut parts = String::from_str(arena.alloc(), "        ")?;
-        whole.texts.value.print(&mut parts, 8, 0, false)?;
+        part.texts.value.print(&mut parts, 8, 0, false)?;
         let parts = arena.keep(parts.as_str())?;
         fill(out, TO_PARTS, &[("name", name), ("parts", parts)])?;
         return traits(out, name, "write_record(self, writer, ctx)");
     }
-    let mut body = String::from_str(arena.alloc(), "let parts = ")?;
-    whole.texts.value.print(&mut body, 8, 1, false)?;
-    body.push_str(";\n        parts.to_writer(writer, ctx)")?;
-    let body = arena.keep(body.as_str())?;
-    traits(out, name, body)?;
+    traits(out, name, body(arena, whole)?)?;
     update(arena, out, name, fields)
 }
 
@@ -270,7 +269,7 @@ fn from_parts<'a>(
     let mut text = String::from_str(arena.alloc(), "    fn from_parts(")?;
     taken(&mut text, whole.texts.pattern)?;
     made(arena, record, shape, fields, whole, None)?.print(&mut text, 8, 0, false)?;
-    if !whole.is_lent && text.as_str().lines().count() > LINES {
+    if !whole.is_lent() && text.as_str().lines().count() > LINES {
         text = by_paths(arena, record, shape, fields, whole)?;
     }
     fill(out, FROM_PARTS, &[("made", text.as_str())])

@@ -173,7 +173,7 @@ struct B { #[deku(temp, temp_value = \"1\")] a: u8 }",
 ];
 
 // Descriptions that deku takes and that have no module.
-const UNPRINTED: [(&str, &str); 52] = [
+const UNPRINTED: [(&str, &str); 49] = [
     (
         "#[deku(id_type = \"u8\")] enum E {
          #[deku(id_pat = \"2..=6\")] A, #[deku(id_pat = \"_\")] B }",
@@ -288,7 +288,7 @@ const UNPRINTED: [(&str, &str); 52] = [
         "#[deku(id_type = \"u8\")]
 enum A { #[deku(id = 1)] B { f: bool, n: u8, #[deku(count = \"n\")] v: Vec<u8>,
 #[deku(cond = \"f\")] o: Option<u8>, z: u8 } }",
-        "3:39 a field after a list or an option that has another one in front",
+        "3:39 a kind with two lists or options, or one of them and a number with a sign",
     ),
     (
         "#[deku(id_type = \"u8\")]
@@ -296,24 +296,9 @@ enum A { #[deku(id = 1)] B { n: u8, #[deku(count = \"n\")] v: Vec<u8>, s: i8 } }
         "2:73 a kind with two lists or options, or one of them and a number with a sign",
     ),
     (
-        "struct A { n: u8, #[deku(until = \"|v: &u8| *v == 0\")] v: Vec<u8>,
-#[deku(count = \"n\")] w: Vec<u8>, m: u8 }",
-        "2:37 a field after a list or an option that has another one in front",
-    ),
-    (
-        "struct A { f: bool, n: u8, #[deku(count = \"n\")] v: Vec<u8>,
-#[deku(cond = \"f\")] o: Option<u8>, z: u8 }",
-        "2:39 a field after a list or an option that has another one in front",
-    ),
-    (
-        "struct A { n: u8, #[deku(count = \"n\")] v: Vec<u8>,
-#[deku(count = \"n\")] w: Vec<u8>, #[deku(read_all)] z: Vec<u8> }",
-        "2:55 a field after a list or an option that has another one in front",
-    ),
-    (
-        "struct A { #[deku(until = \"|v: &u8| *v == 0\")] v: Vec<u8>,
-#[deku(until = \"|v: &u8| *v == 0\")] w: Vec<u8>, #[deku(read_all)] r: Vec<u8> }",
-        "2:70 a field after a list or an option that has another one in front",
+        "struct A { n: u8, #[deku(count = \"n\")] v: Vec<u8>, #[deku(count = \"n\")] w: Vec<u8>, z: u8 }
+struct B { n: u8, #[deku(count = \"n\")] v: Vec<u8>, #[deku(count = \"n\")] w: Vec<u8>, z: u8 }",
+        "2:8 a second type that needs a file of proofs",
     ),
     (
         "struct A { #[deku(read_all)] v: Vec<u8>, w: u8 }",
@@ -415,6 +400,10 @@ enum A { #[deku(id = 1)] B { #[deku(update = \"self.v.len()\")] n: u8 } }",
     ),
 ];
 
+// A struct that is written part by part.
+const TWO_STEPS: &str =
+    "struct A { n: u8, #[deku(count = \"n\")] v: Vec<u8>, #[deku(count = \"n\")] w: Vec<u8>, z: u8 }";
+
 #[test]
 fn complaints_have_places(rt: HostRuntime) -> Result<(), Fail> {
     for (text, wanted) in &ROWS {
@@ -432,6 +421,9 @@ fn descriptions_without_a_module(rt: HostRuntime) -> Result<(), Fail> {
     }
     let said = said_of_unplaced(rt.alloc(), "#[deku(id_type = \"u8\")] enum E { A }")?;
     assert_eq!(rt; said.as_str(), "1:30 an enum needs the name of its module");
+    let said = said_of_unplaced(rt.alloc(), TWO_STEPS)?;
+    let wanted = "1:8 a struct that is written part by part needs the name of its module";
+    assert_eq!(rt; said.as_str(), wanted);
     Ok(())
 }
 

@@ -323,7 +323,7 @@ fn plain_records_are_printed(rt: HostRuntime) -> Result<(), Fail> {
 // Descriptions of lists that end with an item, of tuples of one, of numbers in a row under two bit
 // orders, and of arrays in long records and in kinds of several ids, and texts that their modules
 // have.
-const TEXTS: [(&str, &str); 12] = [
+const TEXTS: [(&str, &str); 18] = [
     (
         "struct A { n: u8, #[deku(until = \"|byte: &u8| *byte == 0\")] name: Vec<u8>, m: u8 }",
         "
@@ -472,6 +472,68 @@ type AParts = (Be<(u16,)>, Be<u16>);
             ) => A::B { id, a, b },
 ",
     ),
+    (
+        "struct A { f: bool, n: u8, #[deku(count = \"n\")] v: Vec<u8>,
+#[deku(cond = \"f\")] o: Option<u8>, z: u8 }",
+        "
+        part.to_writer(writer, ctx)?;
+        self.z.to_writer(writer, ctx)
+    }
+",
+    ),
+    (
+        "#[deku(ctx = \"k: u8\", id = \"k\")] enum E { #[deku(id = 1)] A(u8), #[deku(id = 2)] B }
+struct S { k: u8, #[deku(count = \"k\")] v: Vec<u8>, #[deku(ctx = \"*k\")] e: E, z: u8 }",
+        "
+            value: &self.e,
+            id: PhantomData,
+        };
+        part.to_writer(writer, ctx)?;
+        self.z.to_writer(writer, ctx)
+    }
+",
+    ),
+    (
+        "struct A { n: u8, #[deku(until = \"|v: &u8| *v == 0\")] v: Vec<u8>,
+#[deku(count = \"n\")] w: Vec<u8>, #[deku(read_all)] z: Vec<u8> }",
+        "
+        part.to_writer(writer, ctx)?;
+        self.z.to_writer(writer, ctx)
+    }
+",
+    ),
+    (
+        "struct A { n: u8, #[deku(count = \"n\")] v: Vec<u8>,
+#[deku(count = \"n\")] w: Vec<u8>, #[deku(read_all)] z: Vec<u8> }",
+        "
+        part.to_writer(writer, ctx)?;
+        self.z.to_writer(writer, ctx)
+    }
+",
+    ),
+    (
+        "struct A { #[deku(until = \"|v: &u8| *v == 0\")] v: Vec<u8>,
+#[deku(until = \"|v: &u8| *v == 0\")] w: Vec<u8>, #[deku(read_all)] r: Vec<u8> }",
+        "
+        let part = UntilRef::<_, AWLast> {
+            items: &self.w,
+            last: PhantomData,
+        };
+        part.to_writer(writer, ctx)?;
+        self.r.to_writer(writer, ctx)
+    }
+",
+    ),
+    (
+        "struct A { n: u8, #[deku(count = \"n\")] v: Vec<u8>, #[deku(assert = \"t == n\")] t: u8 }",
+        "
+    fn text() -> &'static str
+        ensures { result.now ≡ codes \"t\" }
+    {
+        \"t\"
+    }
+",
+    ),
 ];
 
 #[test]
@@ -506,12 +568,15 @@ fn modules_have_paths(rt: HostRuntime) -> Result<(), Fail> {
     Ok(())
 }
 
-// An enum that holds memory, and one that does not.
-const HELD: &str = "#[deku(id_type = \"u8\")] enum E {
+// Descriptions, and the proofs that their types need: an enum that holds memory, and structs whose
+// parts are written one after the other.
+const ANSWERS: [(&str, &str); 4] = [
+    (DATAGRAM, ""),
+    (
+        "#[deku(id_type = \"u8\")] enum E {
 #[deku(id = 1)] A { n: u8, #[deku(count = \"n\")] v: Vec<u8> }, #[deku(id = 2)] B }
-#[deku(id_type = \"u8\")] enum F { #[deku(id = 1)] A(u8) }";
-
-const ANSWERS: &str = "use Rattle.std.proofs.Common.{rules}
+#[deku(id_type = \"u8\")] enum F { #[deku(id = 1)] A(u8) }",
+        "use Rattle.std.proofs.Common.{rules}
 use Rattle.samples.proofs.a.EDekuWriterUnit.to_writer.Goals as goal
 
 pub returns-in-A : goal.returns-in-A
@@ -519,14 +584,45 @@ returns-in-A g c = search (rules, c.in-A.is)
 
 pub returns-in-B : goal.returns-in-B
 returns-in-B g c = search (rules, c.in-B.is)
-";
+",
+    ),
+    (
+        "struct S { f: bool, n: u8, #[deku(count = \"n\")] v: Vec<u8>,
+#[deku(cond = \"f\")] o: Option<u8>, m: u8, #[deku(count = \"m\")] w: Vec<u8> }",
+        "use Rattle.deku.proofs.Joining.{passed_on, first_refused, then_on}
+use Rattle.samples.proofs.a.SDekuWriterUnit.to_writer.Goals as goal
+
+pub returns-in_err-to_writer : goal.returns-in_err-to_writer
+returns-in_err-to_writer g c = passed_on _ c.from_residual.ensures.1 (first_refused c.in_err-to_writer.ensures)
+
+pub returns : goal.returns
+returns g c = then_on c.in_ok-to_writer.ensures c.to_writer-2.ensures
+",
+    ),
+    (
+        "struct S { n: u8, #[deku(count = \"n\")] v: Vec<u8>,
+m: u8, #[deku(count = \"m\")] w: Vec<u8>, #[deku(read_all)] z: Vec<u8> }",
+        "use Rattle.deku.proofs.Joining.{passed_on, first_refused, then_on}
+use Rattle.samples.proofs.a.SDekuWriterUnit.to_writer.Goals as goal
+
+pub returns-in_err-to_writer : goal.returns-in_err-to_writer
+returns-in_err-to_writer g c = passed_on _ c.from_residual.ensures.1 (first_refused (first_refused c.in_err-to_writer.ensures))
+
+pub returns-in_err-to_writer-2 : goal.returns-in_err-to_writer-2
+returns-in_err-to_writer-2 g c = passed_on _ c.from_residual-in_err-to_writer-2.ensures.1 (first_refused (then_on c.in_ok-to_writer.ensures c.in_err-to_writer-2.ensures))
+
+pub returns : goal.returns
+returns g c = then_on (then_on c.in_ok-to_writer.ensures c.in_ok-to_writer-2.ensures) c.to_writer-3.ensures
+",
+    ),
+];
 
 #[test]
-fn an_enum_that_holds_memory_has_answers(rt: HostRuntime) -> Result<(), Fail> {
-    let answers = make_answers(rt.alloc(), "a.rs", Some("samples.a"), HELD)?;
-    let wanted = Made::Module(String::from_str(rt.alloc(), ANSWERS)?);
-    assert_eq!(rt; answers, wanted);
-    let none = make_answers(rt.alloc(), "a.rs", Some("samples.a"), DATAGRAM)?;
-    assert_eq!(rt; none, Made::Module(String::new(rt.alloc())));
+fn what_needs_a_proof_has_answers(rt: HostRuntime) -> Result<(), Fail> {
+    for (text, wanted) in &ANSWERS {
+        let answers = make_answers(rt.alloc(), "a.rs", Some("samples.a"), text)?;
+        let wanted = Made::Module(String::from_str(rt.alloc(), wanted)?);
+        assert_eq!(rt; answers, wanted, "of {text}");
+    }
     Ok(())
 }

@@ -15,7 +15,11 @@ pub fn chosen<'a>(
 ) -> Result<Part<'a>, AllocError> {
     Ok(Part {
         texts: printed(arena, head.texts, called, types)?,
-        is_lent: called.owner.is_lent(),
+        lifetimes: if called.owner.is_lent() {
+            head.as_head().saturating_add(1)
+        } else {
+            0
+        },
         cut: None,
         fields: head.fields.followed(arena, called.name, None, ".kind")?,
     })

@@ -8,3 +8,4 @@ pub mod following;
 pub mod marker;
 pub mod part;
 pub mod texts;
+pub mod whole;

@@ -60,6 +60,9 @@ struct Implementation<'i> {
     term: &'i str,
     // The body of the function.
     body: &'i str,
+    // What begins the body of a function without arguments, for lent parts: the prover wants its
+    // clause there.
+    clause: &'i str,
 }
 
 impl<'i> Implementation<'i> {
@@ -84,6 +87,14 @@ impl<'i> Implementation<'i> {
             ("field", marker.field),
             ("term", self.term),
             ("body", self.body),
+            (
+                "clause",
+                if generic.is_empty() {
+                    " {"
+                } else {
+                    self.clause
+                },
+            ),
         ];
         fill(out, self.template, &words)
     }
@@ -162,6 +173,7 @@ pub fn count<'m>(
         template: amount.template(),
         term: number_term(computer, computed)?,
         body: number_body(computer, computed)?,
+        clause: "",
     };
     implementation.print(out, marker)?;
     alike(out, law, marker, computer)
@@ -237,6 +249,7 @@ pub fn condition<'m>(
         template: CONDITION,
         term: computed.term,
         body: truth(computer, computed)?,
+        clause: "",
     };
     implementation.print(out, marker)?;
     alike(out, "ConditionLaw", marker, computer)
@@ -266,6 +279,7 @@ pub fn last<'m>(
         template: LAST,
         term: computed.term,
         body: truth(computer, computed)?,
+        clause: "",
     };
     implementation.one(out, marker)?;
     alike(out, "LastLaw", marker, computer)
@@ -282,7 +296,7 @@ impl$generic$ Check<$parts$>$gap$for $name$ {
 $body$
     }
 
-    fn text() -> &'static str {
+    fn text() -> &'static str$clause$
         \"$field$\"
     }
 }
@@ -301,9 +315,17 @@ pub fn check<'m>(
         template: CHECK,
         term: computed.term,
         body: truth(computer, computed)?,
+        clause: text_clause(computer, marker.field)?,
     };
     implementation.print(out, marker)?;
     alike(out, "CheckLaw", marker, computer)
+}
+
+// What begins the body of the text of a check, for lent parts.
+fn text_clause<'a>(computer: &Computer<'_, 'a>, field: &str) -> Result<&'a str, AllocError> {
+    computer.arena.print(format_args!(
+        "\n        ensures {{ result.now ≡ codes \"{field}\" }}\n    {{"
+    ))
 }
 
 // Which id the parts say.
@@ -329,6 +351,7 @@ pub fn id<'m>(
         template: ID,
         term: computed.term,
         body: number_as(computer, "u64", "\n")?,
+        clause: "",
     };
     implementation.print(out, marker)?;
     alike(out, "IdOfLaw", marker, computer)
@@ -684,6 +707,7 @@ fn alike(
         template: ALIKE,
         term,
         body: "",
+        clause: "",
     };
     implementation.one(out, marker)
 }

@@ -21,8 +21,9 @@ const WORD: u64 = 64;
 pub struct Part<'a> {
     /// How it is printed.
     pub texts: Texts<'a>,
-    /// Whether memory is lent.
-    pub is_lent: bool,
+    /// How many lifetimes the type of what is written for it names. The borrow checker takes no
+    /// type argument that names several.
+    pub lifetimes: usize,
     /// What a tuple cuts it from, if it can be read with its neighbours as one word.
     pub cut: Option<Cut>,
     /// Its fields.
@@ -207,6 +208,16 @@ impl<'a> Fields<'a> {
 }
 
 impl<'a> Part<'a> {
+    /// Whether memory is lent.
+    pub fn is_lent(&self) -> bool {
+        self.lifetimes > 0
+    }
+
+    // How many lifetimes it names as a head: the type that says what follows has one for all of it.
+    pub(crate) fn as_head(&self) -> usize {
+        self.lifetimes.min(1)
+    }
+
     /// Where a field is in it.
     pub fn place(&self, name: &str) -> Option<Place<'a>> {
         let mut places = self.fields.places.iter();
@@ -232,7 +243,7 @@ pub fn leaf<'a>(
     let is_lent = named.owner.is_lent() && (!records.is_copied(field) || has_sign(&field.kind));
     let part = Part {
         texts: Texts::leaf(arena, field, named, is_lent)?,
-        is_lent,
+        lifetimes: if is_lent { 1 } else { 0 },
         cut: cut_of(field),
         fields: leaf_fields(arena, field, named.name)?,
     };
@@ -274,27 +285,46 @@ fn within_one<'a>(
 ) -> Result<Part<'a>, AllocError> {
     Ok(Part {
         texts: part.texts.wrapped(arena, wrapping, named)?,
-        is_lent: part.is_lent,
-        cut: part.cut,
         fields: part.fields.within(arena, ".0", "")?,
+        ..part
     })
 }
 
-/// Parts as one: a tuple, or the part itself if it is alone. Beside other parts, numbers in a row
-/// in one bit order are a tuple of their own, as long as their bits make one word.
+/// Parts as one: a tuple, or the part itself if it is alone.
 pub fn tuple<'a>(arena: &'a Arena, parts: &[Part<'a>]) -> Result<Part<'a>, AllocError> {
+    let items = items_of(arena, parts)?;
+    one_tuple(arena, items.as_slice())
+}
+
+/// The items of the tuple that parts are. Beside other parts, numbers in a row in one bit order are
+/// a tuple of their own, as long as their bits make one word. Many items are tuples of them, where
+/// they name at most one lifetime each.
+pub(crate) fn items_of<'a>(
+    arena: &'a Arena,
+    parts: &[Part<'a>],
+) -> Result<Vec<Part<'a>>, AllocError> {
     let rows = in_rows(arena, parts)?;
     if rows.len() == 1 {
-        return one_tuple(arena, parts);
+        return Vec::from_slice(arena.alloc(), parts);
     }
     if rows.len() <= GROUP {
-        return one_tuple(arena, rows.as_slice());
+        return Ok(rows);
     }
-    let mut groups = Vec::new(arena.alloc());
-    for group in rows.as_slice().chunks(GROUP) {
-        groups.push(one_tuple(arena, group)?)?;
+    let mut items = Vec::new(arena.alloc());
+    let mut group = Vec::new(arena.alloc());
+    for row in rows {
+        let is_alone = row.lifetimes > 1;
+        if (is_alone && !group.is_empty()) || group.len() == GROUP {
+            items.push(one_tuple(arena, group.as_slice())?)?;
+            group.clear();
+        }
+        let into = if is_alone { &mut items } else { &mut group };
+        into.push(row)?;
     }
-    one_tuple(arena, groups.as_slice())
+    if !group.is_empty() {
+        items.push(one_tuple(arena, group.as_slice())?)?;
+    }
+    Ok(items)
 }
 
 // The parts, with a tuple for numbers in a row.
@@ -324,10 +354,12 @@ fn has_room(row: &[Part<'_>], part: &Part<'_>) -> bool {
             _ => return false,
         }
     }
-    row.is_empty() || (bits <= WORD && row.len() < GROUP)
+    let lifetimes = lifetimes_of(row).saturating_add(part.lifetimes);
+    row.is_empty() || (bits <= WORD && row.len() < GROUP && lifetimes < 2)
 }
 
-fn one_tuple<'a>(arena: &'a Arena, parts: &[Part<'a>]) -> Result<Part<'a>, AllocError> {
+// Parts as one tuple.
+pub(crate) fn one_tuple<'a>(arena: &'a Arena, parts: &[Part<'a>]) -> Result<Part<'a>, AllocError> {
     match parts {
         [] => Ok(nothing()),
         [part] => Ok(*part),
@@ -339,10 +371,19 @@ fn one_tuple<'a>(arena: &'a Arena, parts: &[Part<'a>]) -> Result<Part<'a>, Alloc
 fn several<'a>(arena: &'a Arena, parts: &[Part<'a>]) -> Result<Part<'a>, AllocError> {
     Ok(Part {
         texts: tupled_texts(arena, parts)?,
-        is_lent: parts.iter().any(|part| part.is_lent),
+        lifetimes: lifetimes_of(parts),
         cut: None,
         fields: tupled_fields(arena, parts)?,
     })
+}
+
+/// How many lifetimes the types of several parts name together.
+pub fn lifetimes_of(parts: &[Part<'_>]) -> usize {
+    let mut count = 0usize;
+    for part in parts {
+        count = count.saturating_add(part.lifetimes);
+    }
+    count
 }
 
 // How several parts are printed as a tuple.
@@ -391,7 +432,7 @@ fn tupled_fields<'a>(arena: &'a Arena, parts: &[Part<'a>]) -> Result<Fields<'a>,
 fn nothing<'a>() -> Part<'a> {
     Part {
         texts: Texts::nothing(),
-        is_lent: false,
+        lifetimes: 0,
         cut: None,
         fields: Fields::none(),
     }
@@ -420,7 +461,7 @@ pub fn following<'a>(
     let path = joined(arena, ".", form.item())?;
     Ok(Part {
         texts: head.texts.following(arena, form, called, types)?,
-        is_lent: true,
+        lifetimes: head.as_head().saturating_add(1),
         cut: None,
         fields: head.fields.followed(arena, called.name, None, path)?,
     })
@@ -434,54 +475,36 @@ pub fn under<'a>(
     called: Named<'a>,
     (marker, number, context): (&'a str, &'a str, &'a str),
 ) -> Result<Part<'a>, AllocError> {
-    let Part {
-        texts,
-        is_lent,
-        fields,
-        ..
-    } = head;
+    let fields = head.fields;
     Ok(Part {
-        texts: texts.under(arena, called, [marker, number, context])?,
-        is_lent,
+        texts: head.texts.under(arena, called, [marker, number, context])?,
+        lifetimes: head.as_head(),
         cut: None,
         fields: fields.followed(arena, called.name, Some(number), ".value")?,
     })
 }
 
-/// A list up to the end of the input, of these items, after the parts in front.
-pub fn rest<'a>(
-    arena: &'a Arena,
-    front: &[Part<'a>],
-    called: Named<'a>,
-    item: &str,
-) -> Result<Part<'a>, AllocError> {
-    let list = list_to_end(arena, called, item)?;
-    if front.is_empty() {
-        return Ok(list);
-    }
-    before(arena, tuple(arena, front)?, list)
-}
-
-fn list_to_end<'a>(
-    arena: &'a Arena,
-    called: Named<'a>,
-    item: &str,
-) -> Result<Part<'a>, AllocError> {
+/// A list up to the end of the input, of these items.
+pub fn rest<'a>(arena: &'a Arena, called: Named<'a>, item: &str) -> Result<Part<'a>, AllocError> {
     Ok(Part {
         texts: Texts::rest(arena, called, item)?,
-        is_lent: true,
+        lifetimes: 1,
         cut: None,
         fields: Fields::one(arena, called.name, None, ".items")?,
     })
 }
 
-// Parts, and after them what is last.
-fn before<'a>(arena: &'a Arena, head: Part<'a>, last: Part<'a>) -> Result<Part<'a>, AllocError> {
+/// Parts, and after them what is last.
+pub(crate) fn before<'a>(
+    arena: &'a Arena,
+    head: Part<'a>,
+    last: Part<'a>,
+) -> Result<Part<'a>, AllocError> {
     let fields = head.fields.within(arena, ".head", ".0")?;
     let others = last.fields.within(arena, ".rest", ".1")?;
     Ok(Part {
         texts: head.texts.before(arena, last.texts)?,
-        is_lent: true,
+        lifetimes: lifetimes_of(&[head, last]),
         cut: None,
         fields: fields.and(arena, others)?,
     })
@@ -496,7 +519,7 @@ pub fn asserted<'a>(
 ) -> Result<Part<'a>, AllocError> {
     Ok(Part {
         texts: part.texts.asserted(arena, owner, marker)?,
-        is_lent: part.is_lent,
+        lifetimes: part.as_head(),
         cut: None,
         fields: part.fields.within(arena, ".part", "")?,
     })
@@ -513,7 +536,7 @@ pub fn constant<'a>(
 ) -> Result<Part<'a>, AllocError> {
     Ok(Part {
         texts: Texts::constant(arena, owner, kind, marker)?,
-        is_lent: false,
+        lifetimes: 0,
         cut: None,
         fields: Fields {
             places: &[],
