@@ -318,8 +318,11 @@ pub(crate) fn items_of<'a>(
             items.push(one_tuple(arena, group.as_slice())?)?;
             group.clear();
         }
-        let into = if is_alone { &mut items } else { &mut group };
-        into.push(row)?;
+        if is_alone {
+            items.push(row)?;
+        } else {
+            group.push(row)?;
+        }
     }
     if !group.is_empty() {
         items.push(one_tuple(arena, group.as_slice())?)?;

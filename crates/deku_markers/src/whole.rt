@@ -40,14 +40,9 @@ impl<'a> Whole<'a> {
         if let Some(last) = last {
             items.push(last)?;
         }
-        let steps = if lifetimes > 1 && items.len() > 1 {
-            values(arena, items.as_slice())?
-        } else {
-            &[]
-        };
         Ok(Whole {
             part,
-            steps,
+            steps: steps(arena, items.as_slice(), lifetimes)?,
             is_open,
         })
     }
@@ -62,11 +57,17 @@ fn most_lifetimes(parts: &[Part<'_>]) -> usize {
     most
 }
 
-// What makes each of several parts.
-fn values<'a>(arena: &'a Arena, parts: &[Part<'a>]) -> Result<&'a [Text<'a>], AllocError> {
+// What makes each of several parts, if one of them names several lifetimes.
+fn steps<'a>(
+    arena: &'a Arena,
+    parts: &[Part<'a>],
+    lifetimes: usize,
+) -> Result<&'a [Text<'a>], AllocError> {
     let mut values = Vec::new(arena.alloc());
-    for part in parts {
-        values.push(part.texts.value)?;
+    if parts.len() > 1 && lifetimes > 1 {
+        for part in parts {
+            values.push(part.texts.value)?;
+        }
     }
     arena.list(values.as_slice())
 }
