@@ -38,8 +38,9 @@ pub fn make<'t>(
     run(&arena, file, path, text, false)
 }
 
-/// What proves how the enum of a description that holds memory is written: the text of its file
-/// `proofs/MODULE/ENUMDekuWriterUnit/to_writer/Answers.antt`. It is empty if there is none.
+/// What proves how one type of a description is written, an enum that holds memory or a struct that
+/// is written part by part: the text of the file that [`proofs_of`] its module names. It is empty if
+/// no type needs it.
 ///
 /// # Errors
 ///
@@ -56,6 +57,20 @@ pub fn make_answers<'t>(
 ) -> Result<Made, AllocError> {
     let arena = Arena::new(alloc);
     run(&arena, file, path, text, true)
+}
+
+// What is in front of the name of a file of proofs, in the comment of a module.
+const PROOFS: &str = "//! What `derive --answers` prints is in\n//! `";
+
+/// The file of proofs that a printed module needs, from the folder of its crate.
+///
+/// ```text
+/// proofs_of(module)    // Some("proofs/event/EventDekuWriterUnit/to_writer/Answers.antt")
+/// ```
+pub fn proofs_of(module: &str) -> Option<&str> {
+    let (_, file) = module.split_once(PROOFS)?;
+    let (file, _) = file.split_once('`')?;
+    Some(file)
 }
 
 // The module of a description, or its proof.

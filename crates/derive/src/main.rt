@@ -3,10 +3,10 @@
 #![tactic(auto)]
 
 use clap::{Arg, ArgAction, ArgMatches, Command, Error};
-use deku_derive::making::{Made, make, make_answers, module_path};
+use deku_derive::making::{Made, make, make_answers, module_path, proofs_of};
 use deku_exports::{Wanted, make_for_c};
 use deku_tokens::place::first_difference;
-use std::alloc::Global;
+use std::alloc::{AllocError, Global};
 use std::process::ExitCode;
 use std::{env, fs, io};
 
@@ -40,7 +40,7 @@ fn command<'a>(alloc: Global) -> Result<Command<'a>, Error> {
         .value_name("MODULE")
         .action(ArgAction::Set)
         .conflicts_with("check")?
-        .help("Writes the module there");
+        .help("Writes the module there, and its proof beside src, if it needs one");
     let command = Command::new(alloc, "derive").about(ABOUT);
     options(alloc, command.arg(file)?.arg(module)?.arg(output)?)
 }
@@ -71,7 +71,7 @@ fn options<'a>(alloc: Global, command: Command<'a>) -> Result<Command<'a>, Error
         .action(ArgAction::SetTrue)
         .conflicts_with("c")?
         .conflicts_with("header")?
-        .help("Prints the proof of an enum that holds memory; its module says for which file");
+        .help("Prints the proof that a module needs; its comment says for which file");
     Ok(
         command
             .arg(path)?
@@ -85,7 +85,7 @@ fn options<'a>(alloc: Global, command: Command<'a>) -> Result<Command<'a>, Error
 // Does what the words ask for. Whether it succeeded; if not, the error is printed.
 fn run(rt: &HostRuntime, matches: &ArgMatches<'_>) -> io::Result<bool> {
     let name = matches.get_str("FILE").unwrap_or("-");
-    let Some(text) = read(rt, name)? else {
+    let Some(description) = read(rt, name)? else {
         return Ok(false);
     };
     let named = matches.get_str("module");
@@ -94,12 +94,9 @@ fn run(rt: &HostRuntime, matches: &ArgMatches<'_>) -> io::Result<bool> {
         .or(matches.get_str("MODULE"))
         .unwrap_or("");
     let path = module_path(rt.alloc(), named, printed)?;
-    let text = match asked(rt.alloc(), matches, path.as_deref(), text.as_str())? {
-        Made::Module(text) => text,
-        Made::Wrong(told) => {
-            eprint!(rt; "{told}")?;
-            return Ok(false);
-        }
+    let made = asked(rt.alloc(), matches, path.as_deref(), description.as_str())?;
+    let Some(text) = module(rt, made)? else {
+        return Ok(false);
     };
     if matches.get_flag("check") {
         return check(
@@ -109,11 +106,56 @@ fn run(rt: &HostRuntime, matches: &ArgMatches<'_>) -> io::Result<bool> {
             text.as_str(),
         );
     }
-    match matches.get_str("output") {
-        Some(path) => write(rt, path, text.as_str()),
-        None => {
-            print!(rt; "{text}")?;
-            Ok(true)
+    let Some(output) = matches.get_str("output") else {
+        print!(rt; "{text}")?;
+        return Ok(true);
+    };
+    let is_written = write(rt, output, text.as_str())?;
+    match proofs_beside(rt.alloc(), output, text.as_str())? {
+        Some(file) if is_written => {
+            let made = make_answers(rt.alloc(), name, path.as_deref(), description.as_str())?;
+            prove(rt, file.as_str(), made)
+        }
+        _ => Ok(is_written),
+    }
+}
+
+// The text that was made. `None` after what is wrong is printed.
+fn module(rt: &HostRuntime, made: Made) -> io::Result<Option<String>> {
+    match made {
+        Made::Module(text) => Ok(Some(text)),
+        Made::Wrong(told) => {
+            eprint!(rt; "{told}")?;
+            Ok(None)
+        }
+    }
+}
+
+// The file of proofs that a module needs, if the module is in a folder `src`.
+fn proofs_beside(alloc: Global, output: &str, module: &str) -> Result<Option<String>, AllocError> {
+    let Some(file) = proofs_of(module) else {
+        return Ok(None);
+    };
+    if output.starts_with("src/") {
+        return Ok(Some(String::from_str(alloc, file)?));
+    }
+    match output.rsplit_once("/src/") {
+        Some((folder, _)) => Ok(Some(format!(in alloc; "{folder}/{file}")?)),
+        None => Ok(None),
+    }
+}
+
+// Writes what proves a module, and makes the folder for it.
+fn prove(rt: &HostRuntime, file: &str, made: Made) -> io::Result<bool> {
+    let Some(text) = module(rt, made)? else {
+        return Ok(false);
+    };
+    let (folder, _) = file.rsplit_once('/').unwrap_or(("", file));
+    match fs::create_dir_all(rt, folder) {
+        Ok(()) => write(rt, file, text.as_str()),
+        Err(error) => {
+            eprintln!(rt; "error: {folder}: {error}")?;
+            Ok(false)
         }
     }
 }
