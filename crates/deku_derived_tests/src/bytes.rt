@@ -95,14 +95,6 @@ fn items_that_fill_a_size(rt: HostRuntime) -> Result<(), Fail> {
     expect_refusal::<Table>(alloc, &[0x10, 0x01, 0x02], refusal, 16)
 }
 
-fn numbers(alloc: Global, values: &[u16]) -> Result<Vec<Be<u16>>, Fail> {
-    let mut numbers = Vec::new(alloc);
-    for value in values {
-        numbers.push(Be(*value))?;
-    }
-    Ok(numbers)
-}
-
 #[test]
 fn lists_whose_counts_come_first(rt: HostRuntime) -> Result<(), Fail> {
     let alloc = rt.alloc();
@@ -110,7 +102,7 @@ fn lists_whose_counts_come_first(rt: HostRuntime) -> Result<(), Fail> {
         names: 2,
         values: 1,
         name: [0x68, 0x69].to_vec(alloc)?,
-        value: numbers(alloc, &[0x0102])?,
+        value: vec![in alloc; Be(0x0102)]?,
     };
     let bytes = [0x02, 0x01, 0x68, 0x69, 0x01, 0x02];
     expect_packed(alloc, (), &pair, 48, &bytes)
@@ -148,7 +140,7 @@ fn a_list_up_to_the_end(rt: HostRuntime) -> Result<(), Fail> {
     let log = Log {
         version: 3,
         number: 0x123,
-        words: numbers(alloc, &[0x0405, 0x0607])?,
+        words: vec![in alloc; Be(0x0405), Be(0x0607)]?,
     };
     let bytes = [0x31, 0x23, 0x04, 0x05, 0x06, 0x07];
     same(&0, &log.pack_whole(alloc)?.as_slice(), &bytes.as_slice())?;
