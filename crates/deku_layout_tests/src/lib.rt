@@ -3,10 +3,6 @@
 #![tactic(auto)]
 
 #[cfg(test)]
-mod arrays;
-#[cfg(test)]
-mod joined;
-#[cfg(test)]
 mod numbers;
 #[cfg(test)]
 mod records;
