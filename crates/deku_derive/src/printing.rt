@@ -166,6 +166,12 @@ fn constants(out: &mut String, constants: &[Constant<'_>]) -> Result<(), AllocEr
     Ok(())
 }
 
+// Whether a record may use a value that it is given: one whose name does not begin with `_`.
+fn is_used(context: Token<'_>) -> bool {
+    let values = context.text.trim_matches(['"', ' ']);
+    !values.split(',').all(|value| value.trim().starts_with('_'))
+}
+
 impl<'b, 'a> Printer<'b, 'a> {
     // Of these records and constants, with nothing printed.
     fn new(
@@ -236,7 +242,7 @@ impl<'b, 'a> Printer<'b, 'a> {
         if !record.is_whole {
             return Ok(());
         }
-        if record.context.is_some() && !is_given(record) {
+        if record.context.is_some_and(is_used) && !is_given(record) {
             self.complain(
                 record.name,
                 "a record that is given values is not supported",

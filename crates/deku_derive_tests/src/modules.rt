@@ -323,7 +323,7 @@ fn plain_records_are_printed(rt: HostRuntime) -> Result<(), Fail> {
 // Descriptions of lists that end with an item, of tuples of one, of numbers in a row under two bit
 // orders, and of arrays in long records and in kinds of several ids, and texts that their modules
 // have.
-const TEXTS: [(&str, &str); 18] = [
+const TEXTS: [(&str, &str); 19] = [
     (
         "struct A { n: u8, #[deku(until = \"|byte: &u8| *byte == 0\")] name: Vec<u8>, m: u8 }",
         "
@@ -522,6 +522,12 @@ struct S { k: u8, #[deku(count = \"k\")] v: Vec<u8>, #[deku(ctx = \"*k\")] e: E,
         part.to_writer(writer, ctx)?;
         self.r.to_writer(writer, ctx)
     }
+",
+    ),
+    (
+        "#[deku(ctx = \"_: deku::ctx::Endian, _order: Order\", endian = \"big\")] struct A { a: u16 }",
+        "
+type AParts = Be<u16>;
 ",
     ),
     (
