@@ -5,8 +5,7 @@ use crate::checks::{
 };
 use crate::kinds::{EndianOfId, Numbered, Patterns, UnderBits, UnderByte, UnderBytes};
 use crate::numbers::{Bits, Bytes, Endians, LowFirst, OrderOfFields, Orders};
-use deku::prelude::DekuError;
-use deku_symmetry::Symmetric;
+use deku::prelude::{DekuContainerWrite, DekuError};
 use deku_testing_values::expecting::same;
 use deku_testing_values::records::{expect_packed, expect_refusal};
 use std::test::Fail;
@@ -76,7 +75,7 @@ fn magic_and_checks(rt: HostRuntime) -> Result<(), Fail> {
     expect_refusal::<AtLeast>(alloc, &[0, 1, 2], refusal, 8)?;
     expect_packed(alloc, (), &Only { data: 1 }, 8, &[1])?;
     let refusal = DekuError::Assertion("data");
-    same(&2, &Only { data: 2 }.pack(alloc, ()), &Err(refusal))
+    same(&2, &Only { data: 2 }.to_bytes(alloc), &Err(refusal))
 }
 
 #[test]

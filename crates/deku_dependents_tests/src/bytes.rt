@@ -4,8 +4,8 @@ use crate::choosing::{Body, Message, Place, Step, Steps, Walk};
 use crate::dependents::{Alone, Counting, Sizing, ToEnd, Two, Updating, UpdatingTwo, Whether};
 use crate::ended::{Halves, Lists, Numbers, Text, TextAndRest};
 use crate::labels::{Entries, Entry, Label, Name};
-use deku::prelude::{DekuError, DekuUpdate, NeedSize};
-use deku_symmetry::{Be, Le, MsbLe, Symmetric, SymmetricLast};
+use deku::prelude::{DekuContainerWrite, DekuError, DekuUpdate, NeedSize};
+use deku_symmetry::{Be, Le, MsbLe, SymmetricLast};
 use deku_testing_values::expecting::same;
 use deku_testing_values::records::{expect_packed, expect_refusal};
 use std::alloc::Global;
@@ -75,7 +75,7 @@ fn texts_that_a_zero_ends(rt: HostRuntime) -> Result<(), Fail> {
     for wrong in TEXTS {
         text.bytes = wrong.to_vec(alloc)?;
         let refusal = DekuError::Assertion("items out of step with their end");
-        same(&wrong, &text.pack(alloc, ()), &Err(refusal))?;
+        same(&wrong, &text.to_bytes(alloc), &Err(refusal))?;
     }
     let ended = DekuError::Incomplete(NeedSize::new(8));
     expect_refusal::<Text>(alloc, &bytes[..4], ended, 32)
@@ -99,7 +99,7 @@ fn lists_that_an_item_ends(rt: HostRuntime) -> Result<(), Fail> {
     expect_packed(alloc, (), &numbers, 32, &[0xFF, 0x7F, 0x01, 0x80])?;
     numbers.items.push(Le(1))?;
     let refusal = DekuError::Assertion("items out of step with their end");
-    same(&1, &numbers.pack(alloc, ()), &Err(refusal))?;
+    same(&1, &numbers.to_bytes(alloc), &Err(refusal))?;
     let ended = DekuError::Incomplete(NeedSize::new(16));
     expect_refusal::<Numbers>(alloc, &[0x01, 0x00, 0x80], ended, 16)?;
     let between = Halves {
@@ -143,7 +143,7 @@ fn lists_that_a_field_of_an_item_ends(rt: HostRuntime) -> Result<(), Fail> {
     expect_packed(alloc, (), &name, 56, &bytes)?;
     name.labels.pop();
     let refusal = DekuError::Assertion("items out of step with their end");
-    same(&1, &name.pack(alloc, ()), &Err(refusal))?;
+    same(&1, &name.to_bytes(alloc), &Err(refusal))?;
     let entries = [(true, 5), (true, 7)].map(|(more, key)| Entry { more, key });
     let mut table = Entries {
         entries: entries.to_vec(alloc)?,
@@ -155,7 +155,7 @@ fn lists_that_a_field_of_an_item_ends(rt: HostRuntime) -> Result<(), Fail> {
         key: 7,
     })?;
     let refusal = DekuError::Assertion("items out of step with their end");
-    same(&2, &table.pack(alloc, ()), &Err(refusal))
+    same(&2, &table.to_bytes(alloc), &Err(refusal))
 }
 
 // How many items there are, what an update returns, and the count then: if it is refused, the one
@@ -208,10 +208,10 @@ fn kinds_that_a_field_chooses(rt: HostRuntime) -> Result<(), Fail> {
     let refusal = DekuError::Assertion("kind out of step with its id");
     for kind in [0, 2, 15, 16] {
         message.kind = kind;
-        same(&kind, &message.pack(alloc, ()), &Err(refusal))?;
+        same(&kind, &message.to_bytes(alloc), &Err(refusal))?;
     }
     message.body = Body::Nothing;
-    same(&16, &message.pack(alloc, ()), &Err(refusal))?;
+    same(&16, &message.to_bytes(alloc), &Err(refusal))?;
     message.kind = 2;
     expect_packed(alloc, (), &message, 8, &[0x42])?;
     let refusal = DekuError::IdVariantNotFound;
@@ -271,11 +271,11 @@ fn kinds_that_a_field_chooses_twice(rt: HostRuntime) -> Result<(), Fail> {
         let refusal = DekuError::Assertion("kind out of step with its id");
         steps.last = Step::By { times: 0, turn: 0 };
         if id != 0x202 {
-            same(&id, &steps.pack(alloc, ()), &Err(refusal))?;
+            same(&id, &steps.to_bytes(alloc), &Err(refusal))?;
         }
         steps.last = last;
         steps.id = 2;
-        same(&2, &steps.pack(alloc, ()), &Err(refusal))?;
+        same(&2, &steps.to_bytes(alloc), &Err(refusal))?;
     }
     Ok(())
 }

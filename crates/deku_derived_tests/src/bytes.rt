@@ -3,9 +3,9 @@
 use crate::gre::Gre;
 use crate::lists::{Entry, Late, Log, Pair, Table};
 use crate::shape::Shape;
-use deku::prelude::{DekuError, NeedSize};
+use deku::prelude::{DekuContainerRead, DekuContainerWrite, DekuError, NeedSize};
 use deku_messages::ntp::Ntp;
-use deku_symmetry::{Be, Symmetric, SymmetricLast};
+use deku_symmetry::{Be, SymmetricLast};
 use deku_testing_values::expecting::same;
 use deku_testing_values::records::{expect_packed, expect_refusal};
 use deku_transport::tcp::Tcp;
@@ -71,7 +71,7 @@ fn items_that_a_field_counts(rt: HostRuntime) -> Result<(), Fail> {
     ];
     expect_packed(alloc, (), &tcp(alloc, 6, &options)?, 192, &bytes)?;
     let refusal = DekuError::Assertion("count out of step with items");
-    same(&4, &tcp(alloc, 4, &options)?.pack(alloc, ()), &Err(refusal))
+    same(&4, &tcp(alloc, 4, &options)?.to_bytes(alloc), &Err(refusal))
 }
 
 fn table(alloc: Global, size: u16) -> Result<Table, Fail> {
@@ -90,7 +90,7 @@ fn items_that_fill_a_size(rt: HostRuntime) -> Result<(), Fail> {
     let bytes = [0x10, 0x08, 0x02, 0x03, 0x04, 0x05, 0x06, 0x07, 0x09];
     expect_packed(alloc, (), &table(alloc, 8)?, 72, &bytes)?;
     let refusal = DekuError::Assertion("content out of step with its size");
-    same(&9, &table(alloc, 9)?.pack(alloc, ()), &Err(refusal))?;
+    same(&9, &table(alloc, 9)?.to_bytes(alloc), &Err(refusal))?;
     let refusal = DekuError::Parse("head without a size");
     expect_refusal::<Table>(alloc, &[0x10, 0x01, 0x02], refusal, 16)
 }
@@ -147,7 +147,7 @@ fn a_list_up_to_the_end(rt: HostRuntime) -> Result<(), Fail> {
     let read = Log::unpack_whole(alloc, &bytes)?;
     same(&1, &read, &(48, log))?;
     let ended = DekuError::Incomplete(NeedSize::new(16));
-    same(&2, &Log::unpack_whole(alloc, &bytes[..5]), &Err(ended))
+    same(&2, &Log::from_bytes(alloc, (&bytes[..5], 0)), &Err(ended))
 }
 
 #[test]
@@ -184,7 +184,7 @@ fn kinds_under_an_id(rt: HostRuntime) -> Result<(), Fail> {
     expect_packed(alloc, (), &Shape::Empty(7), 8, &[0x37])?;
     expect_packed(alloc, (), &Shape::Unknown(9, 3), 8, &[0x93])?;
     let refusal = DekuError::Assertion("kind out of step with its id");
-    same(&1, &Shape::Unknown(1, 3).pack(alloc, ()), &Err(refusal))?;
+    same(&1, &Shape::Unknown(1, 3).to_bytes(alloc), &Err(refusal))?;
     let ended = DekuError::Incomplete(NeedSize::new(12));
     expect_refusal::<Shape>(alloc, &[0x11], ended, 4)
 }

@@ -2,7 +2,9 @@
 
 use crate::block::{Block, Event, Pair, Position};
 use crate::report::{Measured, Report};
+use deku::prelude::{DekuContainerRead, DekuContainerWrite};
 use deku_symmetry::Be;
+use deku_testing_values::expecting::same;
 use deku_testing_values::records::expect_packed;
 use std::alloc::Global;
 use std::test::Fail;
@@ -81,7 +83,14 @@ fn blocks_in_a_pair(rt: HostRuntime) -> Result<(), Fail> {
         value: 0x0809,
     };
     let timed = block(alloc, Some(0x0102_0304), alarm, (2, &[0x0C0D, 0x0E0F]))?;
-    expect_packed(alloc, (), &timed, 248, &TIMED)?;
+    same(
+        &"written",
+        &timed.to_bytes(alloc)?.as_slice(),
+        &TIMED.as_slice(),
+    )?;
+    let (rest, read) = Block::from_bytes(alloc, (TIMED.as_slice(), 0))?;
+    same(&"what is left", &rest, &([].as_slice(), 0))?;
+    same(&"read", &read, &timed)?;
     let pair = Pair {
         first: timed,
         between: 0x1011,

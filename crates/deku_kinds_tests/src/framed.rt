@@ -1,7 +1,7 @@
 //! A record whose parts are written one after the other, as bytes and back.
 
 use crate::frame::Frame;
-use deku::prelude::{DekuError, NeedSize};
+use deku::prelude::{DekuContainerRead, DekuContainerWrite, DekuError, NeedSize};
 use deku_symmetry::{Be, SymmetricLast};
 use deku_testing_values::expecting::same;
 use std::alloc::Global;
@@ -65,12 +65,12 @@ fn frames_that_are_refused(rt: HostRuntime) -> Result<(), Fail> {
         let frame = frame(alloc, 0, count, total)?;
         same(
             &text,
-            &frame.pack_whole(alloc),
+            &frame.to_bytes(alloc),
             &Err(DekuError::Assertion(text)),
         )?;
     }
-    let wrong = Frame::unpack_whole(alloc, &[0x00, 0x00, 0x01, 0x61, 0x02]);
+    let wrong = Frame::from_bytes(alloc, (&[0x00, 0x00, 0x01, 0x61, 0x02], 0));
     same(&0, &wrong, &Err(DekuError::Assertion("total")))?;
-    let short = Frame::unpack_whole(alloc, &[0x00, 0x00, 0x01, 0x61]);
+    let short = Frame::from_bytes(alloc, (&[0x00, 0x00, 0x01, 0x61], 0));
     same(&1, &short, &Err(DekuError::Incomplete(NeedSize::new(8))))
 }

@@ -3,8 +3,8 @@
 use crate::between::{Between, Body};
 use crate::memory::{Event, Log, Mark, Path};
 use crate::widths::{Measured, Sums};
-use deku::prelude::{DekuError, NeedSize};
-use deku_symmetry::{Be, Symmetric};
+use deku::prelude::{DekuContainerWrite, DekuError, NeedSize};
+use deku_symmetry::Be;
 use deku_testing_values::expecting::same;
 use deku_testing_values::records::{expect_packed, expect_refusal};
 use std::alloc::Global;
@@ -106,7 +106,7 @@ fn kinds_out_of_step(rt: HostRuntime) -> Result<(), Fail> {
         } else {
             other(alloc, kind, 0, &[])?
         };
-        same(&kind, &event.pack(alloc, ()), &Err(refusal))?;
+        same(&kind, &event.to_bytes(alloc), &Err(refusal))?;
     }
     let ended = DekuError::Incomplete(NeedSize::new(8));
     expect_refusal::<Event>(alloc, &[0x01, 0x00, 0x02, 0x61], ended, 32)
@@ -132,7 +132,7 @@ fn an_enum_between_lists(rt: HostRuntime) -> Result<(), Fail> {
     let bytes = [0x02, 0x0A, 0x0B, 0x01, 0x03, 0x04, 0x01, 0xFF];
     expect_packed(alloc, (), &between(alloc, 1)?, 64, &bytes)?;
     let refusal = DekuError::Assertion("kind out of step with its id");
-    same(&2, &between(alloc, 2)?.pack(alloc, ()), &Err(refusal))
+    same(&2, &between(alloc, 2)?.to_bytes(alloc), &Err(refusal))
 }
 
 // The width, the number, and the bytes after four bits A and before a byte FF.
@@ -162,7 +162,7 @@ fn widths_that_a_field_says(rt: HostRuntime) -> Result<(), Fail> {
         last: 0,
     };
     let refusal = DekuError::InvalidParam("bit size of input is larger than requested size");
-    same(&4, &narrow.pack(alloc, ()), &Err(refusal))
+    same(&4, &narrow.to_bytes(alloc), &Err(refusal))
 }
 
 fn sums(alloc: Global, sum: u64) -> Result<Sums, Fail> {
@@ -181,7 +181,7 @@ fn bytes_that_a_field_says(rt: HostRuntime) -> Result<(), Fail> {
     let bytes = [0x03, 0x03, 0x02, 0x01, 0x01, 0xFF];
     expect_packed(alloc, (), &sums(alloc, 0x010203)?, 48, &bytes)?;
     let refusal = Err(DekuError::Assertion("sum"));
-    same(&0, &sums(alloc, 0)?.pack(alloc, ()), &refusal)?;
+    same(&0, &sums(alloc, 0)?.to_bytes(alloc), &refusal)?;
     let wide = DekuError::Parse("too much data");
     expect_refusal::<Sums>(alloc, &[0x09, 0, 0, 0, 0, 0, 0, 0, 0, 0], wide, 8)
 }
