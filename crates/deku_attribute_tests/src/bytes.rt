@@ -109,17 +109,29 @@ fn padding(rt: HostRuntime) -> Result<(), Fail> {
 #[test]
 fn kinds(rt: HostRuntime) -> Result<(), Fail> {
     let alloc = rt.alloc();
-    expect_packed(alloc, (), &UnderByte::First(0xFF), 16, &[0x01, 0xFF])?;
-    let second = UnderByte::Second(0xAB, 0xBEEF);
-    expect_packed(alloc, (), &second, 32, &[0x02, 0xAB, 0xEF, 0xBE])?;
-    expect_packed(alloc, (), &Numbered::First, 8, &[0x01])?;
-    expect_packed(alloc, (), &Numbered::Second, 8, &[0x02])?;
-    let little = EndianOfId::Little(1);
-    expect_packed(alloc, (), &little, 32, &[0x00, 0x01, 0x01, 0x00])?;
-    let big = EndianOfId::Big { x: 256 };
-    expect_packed(alloc, (), &big, 32, &[0x00, 0x02, 0x01, 0x00])?;
-    expect_packed(alloc, (), &Patterns::Few { id: 3 }, 8, &[0x03])?;
-    expect_packed(alloc, (), &Patterns::Others(0xFF), 8, &[0xFF])?;
+    let under: [(UnderByte, &[u8]); 2] = [
+        (UnderByte::First(0xFF), &[0x01, 0xFF]),
+        (UnderByte::Second(0xAB, 0xBEEF), &[0x02, 0xAB, 0xEF, 0xBE]),
+    ];
+    for (value, bytes) in &under {
+        expect_packed(alloc, (), value, bytes.len() * 8, bytes)?;
+    }
+    for (value, byte) in [(Numbered::First, 0x01), (Numbered::Second, 0x02)] {
+        expect_packed(alloc, (), &value, 8, &[byte])?;
+    }
+    let endians = [
+        (EndianOfId::Little(1), [0x00, 0x01, 0x01, 0x00]),
+        (EndianOfId::Big { x: 256 }, [0x00, 0x02, 0x01, 0x00]),
+    ];
+    for (value, bytes) in &endians {
+        expect_packed(alloc, (), value, 32, bytes)?;
+    }
+    for (value, byte) in [
+        (Patterns::Few { id: 3 }, 0x03),
+        (Patterns::Others(0xFF), 0xFF),
+    ] {
+        expect_packed(alloc, (), &value, 8, &[byte])?;
+    }
     let bits = UnderBits::Only(0b0110, 0xFF);
     expect_packed(alloc, (), &bits, 16, &[0b1001_0110, 0xFF])?;
     expect_packed(alloc, (), &UnderBytes::Only(0xFF), 24, &[0xEF, 0xBE, 0xFF])?;

@@ -47,16 +47,17 @@ fn lists_and_conditions(rt: HostRuntime) -> Result<(), Fail> {
     let bytes = [0xAB, 0xBC, 0xDE, 0xEF];
     same(&2, &rest.pack_whole(alloc)?.as_slice(), &bytes.as_slice())?;
     same(&3, &ToEnd::unpack_whole(alloc, &bytes)?, &(32, rest))?;
-    let there = Whether {
-        first: 1,
-        second: Some(2),
-    };
-    expect_packed(alloc, (), &there, 16, &[0x01, 0x02])?;
-    let lacking = Whether {
-        first: 2,
-        second: None,
-    };
-    expect_packed(alloc, (), &lacking, 8, &[0x02])
+    let rows: [(u8, Option<u8>, &[u8]); 2] = [(1, Some(2), &[0x01, 0x02]), (2, None, &[0x02])];
+    for (first, second, bytes) in rows {
+        expect_packed(
+            alloc,
+            (),
+            &Whether { first, second },
+            bytes.len() * 8,
+            bytes,
+        )?;
+    }
+    Ok(())
 }
 
 // Bytes of a text that do not end with their only zero.
@@ -196,6 +197,10 @@ fn counts_that_an_update_sets(rt: HostRuntime) -> Result<(), Fail> {
     expect_packed(alloc, (), &two, 64, &bytes)
 }
 
+fn expect_message(alloc: Global, message: &Message, bytes: &[u8]) -> Result<(), Fail> {
+    expect_packed(alloc, (), message, bytes.len().saturating_mul(8), bytes)
+}
+
 #[test]
 fn kinds_that_a_field_chooses(rt: HostRuntime) -> Result<(), Fail> {
     let alloc = rt.alloc();
@@ -204,7 +209,7 @@ fn kinds_that_a_field_chooses(rt: HostRuntime) -> Result<(), Fail> {
         kind: 1,
         body: Body::Number(0xBEEF),
     };
-    expect_packed(alloc, (), &message, 24, &[0x41, 0xBE, 0xEF])?;
+    expect_message(alloc, &message, &[0x41, 0xBE, 0xEF])?;
     let refusal = DekuError::Assertion("kind out of step with its id");
     for kind in [0, 2, 15, 16] {
         message.kind = kind;
@@ -213,7 +218,7 @@ fn kinds_that_a_field_chooses(rt: HostRuntime) -> Result<(), Fail> {
     message.body = Body::Nothing;
     same(&16, &message.to_bytes(alloc), &Err(refusal))?;
     message.kind = 2;
-    expect_packed(alloc, (), &message, 8, &[0x42])?;
+    expect_message(alloc, &message, &[0x42])?;
     let refusal = DekuError::IdVariantNotFound;
     expect_refusal::<Message>(alloc, &[0x43, 0xBE, 0xEF], refusal, 8)?;
     expect_refusal::<Message>(alloc, &[0x40], refusal, 8)

@@ -108,6 +108,10 @@ fn lists_whose_counts_come_first(rt: HostRuntime) -> Result<(), Fail> {
     expect_packed(alloc, (), &pair, 48, &bytes)
 }
 
+fn expect_late(alloc: Global, late: &Late, bytes: &[u8]) -> Result<(), Fail> {
+    expect_packed(alloc, (), late, bytes.len().saturating_mul(8), bytes)
+}
+
 #[test]
 fn an_option_after_a_list(rt: HostRuntime) -> Result<(), Fail> {
     let alloc = rt.alloc();
@@ -119,19 +123,13 @@ fn an_option_after_a_list(rt: HostRuntime) -> Result<(), Fail> {
         time: Some(Be(0x0304_0506)),
     };
     let bytes = [0x0B, 0x02, 0xFF, 0xFE, 0x01, 0x02, 0x03, 0x04, 0x05, 0x06];
-    expect_packed(alloc, (), &late, 80, &bytes)?;
+    expect_late(alloc, &late, &bytes)?;
     let without = Late {
         has_time: false,
         time: None,
         ..late
     };
-    expect_packed(
-        alloc,
-        (),
-        &without,
-        48,
-        &[0x0A, 0x02, 0xFF, 0xFE, 0x01, 0x02],
-    )
+    expect_late(alloc, &without, &[0x0A, 0x02, 0xFF, 0xFE, 0x01, 0x02])
 }
 
 #[test]
@@ -174,15 +172,20 @@ fn fields_that_flags_bring(rt: HostRuntime) -> Result<(), Fail> {
 #[test]
 fn kinds_under_an_id(rt: HostRuntime) -> Result<(), Fail> {
     let alloc = rt.alloc();
-    expect_packed(alloc, (), &Shape::Circle(0x123), 16, &[0x11, 0x23])?;
     let rectangle = Shape::Rectangle {
         flags: 5,
         width: 0x0102,
         height: 0x0304,
     };
-    expect_packed(alloc, (), &rectangle, 40, &[0x25, 0x01, 0x02, 0x03, 0x04])?;
-    expect_packed(alloc, (), &Shape::Empty(7), 8, &[0x37])?;
-    expect_packed(alloc, (), &Shape::Unknown(9, 3), 8, &[0x93])?;
+    let rows: [(Shape, &[u8]); 4] = [
+        (Shape::Circle(0x123), &[0x11, 0x23]),
+        (rectangle, &[0x25, 0x01, 0x02, 0x03, 0x04]),
+        (Shape::Empty(7), &[0x37]),
+        (Shape::Unknown(9, 3), &[0x93]),
+    ];
+    for (shape, bytes) in &rows {
+        expect_packed(alloc, (), shape, bytes.len() * 8, bytes)?;
+    }
     let refusal = DekuError::Assertion("kind out of step with its id");
     same(&1, &Shape::Unknown(1, 3).to_bytes(alloc), &Err(refusal))?;
     let ended = DekuError::Incomplete(NeedSize::new(12));
