@@ -1,5 +1,6 @@
 //! Enums, as they are printed.
 
+use crate::steps::goals;
 use crate::structs::{derives, docs, is_array, item, parts_alias, term_of, traits, value_of};
 use deku_attributes::model::{Case, Endian, Id, IdSource, Ids, Order, Record};
 use deku_dependents::building::field_name;
@@ -191,11 +192,6 @@ fn lent<'a>(
     traits(out, name, body)
 }
 
-const GOALS: &str = "\
-use Rattle.std.proofs.Common.{rules}
-use Rattle.$front$.proofs$dot$$rest$.$name$DekuWriterUnit.to_writer.Goals as goal
-";
-
 const ANSWER: &str = "
 pub returns-in-$case$ : goal.returns-in-$case$
 returns-in-$case$ g c = search (rules, c.in-$case$.is)
@@ -208,15 +204,7 @@ pub(crate) fn answers<'w>(
     name: &'w str,
     kinds: &[Built<'_>],
 ) -> Result<(), AllocError> {
-    let (front, rest) = path.split_once('.').unwrap_or((path, ""));
-    let dot = if rest.is_empty() { "" } else { "." };
-    let words = [
-        ("front", front),
-        ("dot", dot),
-        ("rest", rest),
-        ("name", name),
-    ];
-    fill(out, GOALS, &words)?;
+    goals(out, "std.proofs.Common.{rules}", path, name)?;
     for kind in kinds {
         let of = kind.case;
         fill(out, ANSWER, &[("case", of.name.text)])?;

@@ -39,8 +39,8 @@ pub fn make<'t>(
 }
 
 /// What proves how one type of a description is written, an enum that holds memory or a struct that
-/// is written part by part: the text of the file that [`proofs_of`] its module names. It is empty if
-/// no type needs it.
+/// is written part by part: the text of the file that its module names ([`proofs_of`]). It is empty
+/// if no type needs it.
 ///
 /// # Errors
 ///

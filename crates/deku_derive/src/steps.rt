@@ -38,9 +38,30 @@ fn written(out: &mut String, part: Text<'_>) -> Result<(), AllocError> {
 }
 
 const GOALS: &str = "\
-use Rattle.deku.proofs.Joining.{passed_on, first_refused, then_on}
+use Rattle.$lemmas$
 use Rattle.$front$.proofs$dot$$rest$.$name$DekuWriterUnit.to_writer.Goals as goal
 ";
+
+/// Appends what a proof of how a type is written imports: these lemmas, and its goals.
+pub(crate) fn goals<'w>(
+    out: &mut String,
+    lemmas: &'w str,
+    path: &'w str,
+    name: &'w str,
+) -> Result<(), AllocError> {
+    let (front, rest) = path.split_once('.').unwrap_or((path, ""));
+    let dot = if rest.is_empty() { "" } else { "." };
+    let words = [
+        ("lemmas", lemmas),
+        ("front", front),
+        ("dot", dot),
+        ("rest", rest),
+        ("name", name),
+    ];
+    fill(out, GOALS, &words)
+}
+
+const LEMMAS: &str = "deku.proofs.Joining.{passed_on, first_refused, then_on}";
 
 const REFUSED: &str = "
 pub returns-in_err-$call$ : goal.returns-in_err-$call$
@@ -61,15 +82,7 @@ pub(crate) fn answers<'a>(
     name: &'a str,
     whole: Whole<'a>,
 ) -> Result<(), AllocError> {
-    let (front, rest) = path.split_once('.').unwrap_or((path, ""));
-    let dot = if rest.is_empty() { "" } else { "." };
-    let words = [
-        ("front", front),
-        ("dot", dot),
-        ("rest", rest),
-        ("name", name),
-    ];
-    fill(out, GOALS, &words)?;
+    goals(out, LEMMAS, path, name)?;
     let count = whole.steps.len();
     for step in 1..count {
         let call = call(arena, step)?;
