@@ -129,6 +129,16 @@ impl DekuContainerRead for Chassis {}
 
 impl DekuContainerWrite for Chassis {}
 
+impl deku_c_records::LawForC for Chassis {
+    ghost pieces_for_c = { λ v. ⟦<Chassis as deku_symmetry::Symmetric<()>>⟧.pieces v tt };
+
+    ghost same_for_c = { ⟦<Chassis as deku_symmetry::Symmetric<()>>⟧.same };
+
+    fn law_for_c() {
+        deku_c_records::law_of::<Chassis>()
+    }
+}
+
 /// Reads the record from the first byte on. Returns 0, or the number of the error; the record then
 /// stays as it was.
 #[unsafe(no_mangle)]

@@ -220,6 +220,16 @@ impl DekuContainerRead for TelemetrySample {}
 
 impl DekuContainerWrite for TelemetrySample {}
 
+impl deku_c_records::LawForC for SpacePacket {
+    ghost pieces_for_c = { λ v. ⟦<SpacePacket as deku_symmetry::Symmetric<()>>⟧.pieces v tt };
+
+    ghost same_for_c = { ⟦<SpacePacket as deku_symmetry::Symmetric<()>>⟧.same };
+
+    fn law_for_c() {
+        deku_c_records::law_of::<SpacePacket>()
+    }
+}
+
 /// Reads the record from the first byte on. Returns 0, or the number of the error; the record then
 /// stays as it was.
 #[unsafe(no_mangle)]
@@ -236,6 +246,16 @@ pub extern "C" fn space_packet_write(value: &SpacePacket, bytes: &mut [u8]) -> u
     ensures { ⟦<SpacePacket as ForC>⟧.writes_for_c value.now bytes.old result bytes.new }
 {
     value.write_for_c(bytes)
+}
+
+impl deku_c_records::LawForC for TelemetrySample {
+    ghost pieces_for_c = { λ v. ⟦<TelemetrySample as deku_symmetry::Symmetric<()>>⟧.pieces v tt };
+
+    ghost same_for_c = { ⟦<TelemetrySample as deku_symmetry::Symmetric<()>>⟧.same };
+
+    fn law_for_c() {
+        deku_c_records::law_of::<TelemetrySample>()
+    }
 }
 
 /// Reads the record from the first byte on. Returns 0, or the number of the error; the record then

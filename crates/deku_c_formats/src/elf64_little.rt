@@ -395,6 +395,16 @@ impl DekuContainerRead for ElfSegmentLittle {}
 
 impl DekuContainerWrite for ElfSegmentLittle {}
 
+impl deku_c_records::LawForC for ElfHeaderLittle {
+    ghost pieces_for_c = { λ v. ⟦<ElfHeaderLittle as deku_symmetry::Symmetric<()>>⟧.pieces v tt };
+
+    ghost same_for_c = { ⟦<ElfHeaderLittle as deku_symmetry::Symmetric<()>>⟧.same };
+
+    fn law_for_c() {
+        deku_c_records::law_of::<ElfHeaderLittle>()
+    }
+}
+
 /// Reads the record from the first byte on. Returns 0, or the number of the error; the record then
 /// stays as it was.
 #[unsafe(no_mangle)]
@@ -415,6 +425,16 @@ pub extern "C" fn elf_header_little_write(value: &ElfHeaderLittle, bytes: &mut [
     ensures { ⟦<ElfHeaderLittle as ForC>⟧.writes_for_c value.now bytes.old result bytes.new }
 {
     value.write_for_c(bytes)
+}
+
+impl deku_c_records::LawForC for ElfSegmentLittle {
+    ghost pieces_for_c = { λ v. ⟦<ElfSegmentLittle as deku_symmetry::Symmetric<()>>⟧.pieces v tt };
+
+    ghost same_for_c = { ⟦<ElfSegmentLittle as deku_symmetry::Symmetric<()>>⟧.same };
+
+    fn law_for_c() {
+        deku_c_records::law_of::<ElfSegmentLittle>()
+    }
 }
 
 /// Reads the record from the first byte on. Returns 0, or the number of the error; the record then

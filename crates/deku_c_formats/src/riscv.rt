@@ -672,6 +672,16 @@ impl DekuContainerRead for RiscvJump {}
 
 impl DekuContainerWrite for RiscvJump {}
 
+impl deku_c_records::LawForC for RiscvRegister {
+    ghost pieces_for_c = { λ v. ⟦<RiscvRegister as deku_symmetry::Symmetric<()>>⟧.pieces v tt };
+
+    ghost same_for_c = { ⟦<RiscvRegister as deku_symmetry::Symmetric<()>>⟧.same };
+
+    fn law_for_c() {
+        deku_c_records::law_of::<RiscvRegister>()
+    }
+}
+
 /// Reads the record from the first byte on. Returns 0, or the number of the error; the record then
 /// stays as it was.
 #[unsafe(no_mangle)]
@@ -688,6 +698,16 @@ pub extern "C" fn riscv_register_write(value: &RiscvRegister, bytes: &mut [u8]) 
     ensures { ⟦<RiscvRegister as ForC>⟧.writes_for_c value.now bytes.old result bytes.new }
 {
     value.write_for_c(bytes)
+}
+
+impl deku_c_records::LawForC for RiscvImmediate {
+    ghost pieces_for_c = { λ v. ⟦<RiscvImmediate as deku_symmetry::Symmetric<()>>⟧.pieces v tt };
+
+    ghost same_for_c = { ⟦<RiscvImmediate as deku_symmetry::Symmetric<()>>⟧.same };
+
+    fn law_for_c() {
+        deku_c_records::law_of::<RiscvImmediate>()
+    }
 }
 
 /// Reads the record from the first byte on. Returns 0, or the number of the error; the record then
@@ -712,6 +732,16 @@ pub extern "C" fn riscv_immediate_write(value: &RiscvImmediate, bytes: &mut [u8]
     value.write_for_c(bytes)
 }
 
+impl deku_c_records::LawForC for RiscvStore {
+    ghost pieces_for_c = { λ v. ⟦<RiscvStore as deku_symmetry::Symmetric<()>>⟧.pieces v tt };
+
+    ghost same_for_c = { ⟦<RiscvStore as deku_symmetry::Symmetric<()>>⟧.same };
+
+    fn law_for_c() {
+        deku_c_records::law_of::<RiscvStore>()
+    }
+}
+
 /// Reads the record from the first byte on. Returns 0, or the number of the error; the record then
 /// stays as it was.
 #[unsafe(no_mangle)]
@@ -728,6 +758,16 @@ pub extern "C" fn riscv_store_write(value: &RiscvStore, bytes: &mut [u8]) -> u32
     ensures { ⟦<RiscvStore as ForC>⟧.writes_for_c value.now bytes.old result bytes.new }
 {
     value.write_for_c(bytes)
+}
+
+impl deku_c_records::LawForC for RiscvBranch {
+    ghost pieces_for_c = { λ v. ⟦<RiscvBranch as deku_symmetry::Symmetric<()>>⟧.pieces v tt };
+
+    ghost same_for_c = { ⟦<RiscvBranch as deku_symmetry::Symmetric<()>>⟧.same };
+
+    fn law_for_c() {
+        deku_c_records::law_of::<RiscvBranch>()
+    }
 }
 
 /// Reads the record from the first byte on. Returns 0, or the number of the error; the record then
@@ -748,6 +788,16 @@ pub extern "C" fn riscv_branch_write(value: &RiscvBranch, bytes: &mut [u8]) -> u
     value.write_for_c(bytes)
 }
 
+impl deku_c_records::LawForC for RiscvUpper {
+    ghost pieces_for_c = { λ v. ⟦<RiscvUpper as deku_symmetry::Symmetric<()>>⟧.pieces v tt };
+
+    ghost same_for_c = { ⟦<RiscvUpper as deku_symmetry::Symmetric<()>>⟧.same };
+
+    fn law_for_c() {
+        deku_c_records::law_of::<RiscvUpper>()
+    }
+}
+
 /// Reads the record from the first byte on. Returns 0, or the number of the error; the record then
 /// stays as it was.
 #[unsafe(no_mangle)]
@@ -764,6 +814,16 @@ pub extern "C" fn riscv_upper_write(value: &RiscvUpper, bytes: &mut [u8]) -> u32
     ensures { ⟦<RiscvUpper as ForC>⟧.writes_for_c value.now bytes.old result bytes.new }
 {
     value.write_for_c(bytes)
+}
+
+impl deku_c_records::LawForC for RiscvJump {
+    ghost pieces_for_c = { λ v. ⟦<RiscvJump as deku_symmetry::Symmetric<()>>⟧.pieces v tt };
+
+    ghost same_for_c = { ⟦<RiscvJump as deku_symmetry::Symmetric<()>>⟧.same };
+
+    fn law_for_c() {
+        deku_c_records::law_of::<RiscvJump>()
+    }
 }
 
 /// Reads the record from the first byte on. Returns 0, or the number of the error; the record then

@@ -207,6 +207,16 @@ impl DekuContainerRead for DnsHeader {}
 
 impl DekuContainerWrite for DnsHeader {}
 
+impl deku_c_records::LawForC for DnsHeader {
+    ghost pieces_for_c = { λ v. ⟦<DnsHeader as deku_symmetry::Symmetric<()>>⟧.pieces v tt };
+
+    ghost same_for_c = { ⟦<DnsHeader as deku_symmetry::Symmetric<()>>⟧.same };
+
+    fn law_for_c() {
+        deku_c_records::law_of::<DnsHeader>()
+    }
+}
+
 /// Reads the record from the first byte on. Returns 0, or the number of the error; the record then
 /// stays as it was.
 #[unsafe(no_mangle)]

@@ -235,6 +235,16 @@ impl DekuContainerRead for Ipv4 {}
 
 impl DekuContainerWrite for Ipv4 {}
 
+impl deku_c_records::LawForC for Ipv4 {
+    ghost pieces_for_c = { λ v. ⟦<Ipv4 as deku_symmetry::Symmetric<()>>⟧.pieces v tt };
+
+    ghost same_for_c = { ⟦<Ipv4 as deku_symmetry::Symmetric<()>>⟧.same };
+
+    fn law_for_c() {
+        deku_c_records::law_of::<Ipv4>()
+    }
+}
+
 /// Reads the record from the first byte on. Returns 0, or the number of the error; the record then
 /// stays as it was.
 #[unsafe(no_mangle)]

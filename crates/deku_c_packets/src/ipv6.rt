@@ -179,6 +179,16 @@ impl DekuContainerRead for Ipv6 {}
 
 impl DekuContainerWrite for Ipv6 {}
 
+impl deku_c_records::LawForC for Ipv6 {
+    ghost pieces_for_c = { λ v. ⟦<Ipv6 as deku_symmetry::Symmetric<()>>⟧.pieces v tt };
+
+    ghost same_for_c = { ⟦<Ipv6 as deku_symmetry::Symmetric<()>>⟧.same };
+
+    fn law_for_c() {
+        deku_c_records::law_of::<Ipv6>()
+    }
+}
+
 /// Reads the record from the first byte on. Returns 0, or the number of the error; the record then
 /// stays as it was.
 #[unsafe(no_mangle)]

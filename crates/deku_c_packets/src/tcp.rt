@@ -236,6 +236,16 @@ impl DekuContainerRead for TcpHeader {}
 
 impl DekuContainerWrite for TcpHeader {}
 
+impl deku_c_records::LawForC for TcpHeader {
+    ghost pieces_for_c = { λ v. ⟦<TcpHeader as deku_symmetry::Symmetric<()>>⟧.pieces v tt };
+
+    ghost same_for_c = { ⟦<TcpHeader as deku_symmetry::Symmetric<()>>⟧.same };
+
+    fn law_for_c() {
+        deku_c_records::law_of::<TcpHeader>()
+    }
+}
+
 /// Reads the record from the first byte on. Returns 0, or the number of the error; the record then
 /// stays as it was.
 #[unsafe(no_mangle)]

@@ -88,6 +88,16 @@ impl DekuContainerRead for Sample {}
 
 impl DekuContainerWrite for Sample {}
 
+impl deku_c_records::LawForC for Sample {
+    ghost pieces_for_c = { λ v. ⟦<Sample as deku_symmetry::Symmetric<()>>⟧.pieces v tt };
+
+    ghost same_for_c = { ⟦<Sample as deku_symmetry::Symmetric<()>>⟧.same };
+
+    fn law_for_c() {
+        deku_c_records::law_of::<Sample>()
+    }
+}
+
 /// Reads the record from the first byte on. Returns 0, or the number of the error; the record then
 /// stays as it was.
 #[unsafe(no_mangle)]
