@@ -48,7 +48,7 @@ fn frames_are_written_and_read(rt: HostRuntime) -> Result<(), Fail> {
         let bytes = FRAMES[row];
         let number = if row == 0 { 2 } else { 0 };
         let frame = frame(alloc, row, number, number)?;
-        same(&row, &frame.pack_whole(alloc)?.as_slice(), &bytes)?;
+        same(&row, &frame.to_bytes(alloc)?.as_slice(), &bytes)?;
         let wanted = (8 * bytes.len(), frame);
         same(&row, &Frame::unpack_whole(alloc, bytes)?, &wanted)?;
     }
