@@ -12,8 +12,9 @@ use deku_pieces::read_whole;
 use deku_symmetry::Symmetric;
 use std::alloc::Global;
 
-/// A record whose law a call states. The prover writes out all that a record consists of wherever
-/// the law is asked for by a bound: by such a call, that is in one place for each record.
+/// A record that states by a call that reading and writing it are symmetric. Where a bound asks for
+/// this, the prover writes out all that the record consists of. So a record has it in one place,
+/// and the functions that C calls are checked at once.
 pub trait LawForC: DekuReader<()> + DekuWriter<()> {
     // The pieces of a record.
     ghost pieces_for_c: { Self → List Piece → Type 0 };
@@ -21,8 +22,7 @@ pub trait LawForC: DekuReader<()> + DekuWriter<()> {
     // Whether two records are the same.
     ghost same_for_c: { Self → Self → Type 0 };
 
-    /// States that reading and writing are symmetric, and does nothing. Its body is a call of
-    /// [`law_of`].
+    /// States that reading and writing are symmetric, and does nothing. Its body calls [`law_of`].
     fn law_for_c()
         ensures { IsSymmetric pieces_for_c same_for_c (λ v. Self.DekuWriter.meaning v tt)
             (Self.DekuReader.meaning tt) };
