@@ -6,6 +6,7 @@
 #include "png_start.h"
 #include "records.h"
 #include "riscv.h"
+#include "riscv_jumps.h"
 
 static void buses(void)
 {

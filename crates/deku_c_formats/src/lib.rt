@@ -8,3 +8,4 @@ pub mod elf64_big;
 pub mod elf64_little;
 pub mod png_start;
 pub mod riscv;
+pub mod riscv_jumps;
