@@ -1,6 +1,6 @@
 //! Modules that are printed.
 
-use deku_derive::making::{Made, make, make_answers, module_path};
+use deku_derive::making::{Made, make, make_answers, module_path, proofs_of};
 use std::test::Fail;
 
 const DATAGRAM: &str = "//! The header of a UDP datagram, RFC 768.
@@ -629,6 +629,29 @@ fn what_needs_a_proof_has_answers(rt: HostRuntime) -> Result<(), Fail> {
         let answers = make_answers(rt.alloc(), "a.rs", Some("samples.a"), text)?;
         let wanted = Made::Module(String::from_str(rt.alloc(), wanted)?);
         assert_eq!(rt; answers, wanted, "of {text}");
+    }
+    Ok(())
+}
+
+// The files of these proofs.
+const FILES: [Option<&str>; 4] = [
+    None,
+    Some("proofs/a/EDekuWriterUnit/to_writer/Answers.antt"),
+    Some("proofs/a/SDekuWriterUnit/to_writer/Answers.antt"),
+    Some("proofs/a/SDekuWriterUnit/to_writer/Answers.antt"),
+];
+
+#[test]
+fn modules_name_the_files_of_their_proofs(rt: HostRuntime) -> Result<(), Fail> {
+    for ((text, _), file) in ANSWERS.iter().zip(&FILES) {
+        match make(rt.alloc(), "a.rs", Some("samples.a"), text)? {
+            Made::Module(printed) => assert_eq!(rt;
+                proofs_of(printed.as_str()),
+                *file,
+                "of {text}"
+            ),
+            Made::Wrong(told) => assert_eq!(rt; told.as_str(), "", "of {text}"),
+        }
     }
     Ok(())
 }
