@@ -125,6 +125,8 @@ impl DekuWriter<()> for Named {
 }
 
 impl Record<()> for Named {
+    type Layout = NamedParts;
+
     ghost reads = { λ c b s r u m. m };
 
     ghost writes = { λ c v b s r u m. m };
@@ -217,6 +219,8 @@ impl DekuWriter<()> for NamedField {
 }
 
 impl Record<()> for NamedField {
+    type Layout = NamedFieldParts;
+
     ghost reads = { λ c b s r u m. m };
 
     ghost writes = { λ c v b s r u m. m };
@@ -306,6 +310,8 @@ impl DekuWriter<()> for AtLeast {
 }
 
 impl Record<()> for AtLeast {
+    type Layout = AtLeastParts;
+
     ghost reads = { λ c b s r u m. m };
 
     ghost writes = { λ c v b s r u m. m };
@@ -395,6 +401,8 @@ impl DekuWriter<()> for Only {
 }
 
 impl Record<()> for Only {
+    type Layout = OnlyParts;
+
     ghost reads = { λ c b s r u m. m };
 
     ghost writes = { λ c v b s r u m. m };
@@ -466,6 +474,8 @@ impl DekuWriter<()> for BytesBefore {
 }
 
 impl Record<()> for BytesBefore {
+    type Layout = BytesBeforeParts;
+
     ghost reads = { λ c b s r u m. m };
 
     ghost writes = { λ c v b s r u m. m };
@@ -537,6 +547,8 @@ impl DekuWriter<()> for BitsBefore {
 }
 
 impl Record<()> for BitsBefore {
+    type Layout = BitsBeforeParts;
+
     ghost reads = { λ c b s r u m. m };
 
     ghost writes = { λ c v b s r u m. m };
@@ -608,6 +620,8 @@ impl DekuWriter<()> for BytesAfter {
 }
 
 impl Record<()> for BytesAfter {
+    type Layout = BytesAfterParts;
+
     ghost reads = { λ c b s r u m. m };
 
     ghost writes = { λ c v b s r u m. m };
@@ -679,6 +693,8 @@ impl DekuWriter<()> for BitsAfter {
 }
 
 impl Record<()> for BitsAfter {
+    type Layout = BitsAfterParts;
+
     ghost reads = { λ c b s r u m. m };
 
     ghost writes = { λ c v b s r u m. m };

@@ -101,6 +101,8 @@ impl DekuWriter<()> for UnderByte {
 }
 
 impl Record<()> for UnderByte {
+    type Layout = UnderByteParts;
+
     ghost reads = { λ c b s r u m. m };
 
     ghost writes = { λ c v b s r u m. m };
@@ -180,6 +182,8 @@ impl DekuWriter<()> for Numbered {
 }
 
 impl Record<()> for Numbered {
+    type Layout = NumberedParts;
+
     ghost reads = { λ c b s r u m. m };
 
     ghost writes = { λ c v b s r u m. m };
@@ -265,6 +269,8 @@ impl DekuWriter<()> for EndianOfId {
 }
 
 impl Record<()> for EndianOfId {
+    type Layout = EndianOfIdParts;
+
     ghost reads = { λ c b s r u m. m };
 
     ghost writes = { λ c v b s r u m. m };
@@ -369,6 +375,8 @@ impl DekuWriter<()> for Patterns {
 }
 
 impl Record<()> for Patterns {
+    type Layout = PatternsParts;
+
     ghost reads = { λ c b s r u m. m };
 
     ghost writes = { λ c v b s r u m. m };
@@ -442,6 +450,8 @@ impl DekuWriter<()> for UnderBits {
 }
 
 impl Record<()> for UnderBits {
+    type Layout = UnderBitsParts;
+
     ghost reads = { λ c b s r u m. m };
 
     ghost writes = { λ c v b s r u m. m };
@@ -512,6 +522,8 @@ impl DekuWriter<()> for UnderBytes {
 }
 
 impl Record<()> for UnderBytes {
+    type Layout = UnderBytesParts;
+
     ghost reads = { λ c b s r u m. m };
 
     ghost writes = { λ c v b s r u m. m };

@@ -73,6 +73,8 @@ impl DekuWriter<()> for Endians {
 }
 
 impl Record<()> for Endians {
+    type Layout = EndiansParts;
+
     ghost reads = { λ c b s r u m. m };
 
     ghost writes = { λ c v b s r u m. m };
@@ -180,6 +182,8 @@ impl DekuWriter<()> for LowFirst {
 }
 
 impl Record<()> for LowFirst {
+    type Layout = LowFirstParts;
+
     ghost reads = { λ c b s r u m. m };
 
     ghost writes = { λ c v b s r u m. m };
@@ -290,6 +294,8 @@ impl DekuWriter<()> for Orders {
 }
 
 impl Record<()> for Orders {
+    type Layout = OrdersParts;
+
     ghost reads = { λ c b s r u m. m };
 
     ghost writes = { λ c v b s r u m. m };
@@ -357,6 +363,8 @@ impl DekuWriter<()> for OrderOfFields {
 }
 
 impl Record<()> for OrderOfFields {
+    type Layout = OrderOfFieldsParts;
+
     ghost reads = { λ c b s r u m. m };
 
     ghost writes = { λ c v b s r u m. m };
@@ -429,6 +437,8 @@ impl DekuWriter<()> for Bits {
 }
 
 impl Record<()> for Bits {
+    type Layout = BitsParts;
+
     ghost reads = { λ c b s r u m. m };
 
     ghost writes = { λ c v b s r u m. m };
@@ -496,6 +506,8 @@ impl DekuWriter<()> for Bytes {
 }
 
 impl Record<()> for Bytes {
+    type Layout = BytesParts;
+
     ghost reads = { λ c b s r u m. m };
 
     ghost writes = { λ c v b s r u m. m };

@@ -120,6 +120,8 @@ impl DekuWriter<()> for Chassis {
 }
 
 impl Record<()> for Chassis {
+    type Layout = ChassisParts;
+
     ghost reads = { λ c b s r u m. m };
 
     ghost writes = { λ c v b s r u m. m };
@@ -128,16 +130,6 @@ impl Record<()> for Chassis {
 impl DekuContainerRead for Chassis {}
 
 impl DekuContainerWrite for Chassis {}
-
-impl deku_c_records::LawForC for Chassis {
-    ghost pieces_for_c = { λ v. ⟦<Chassis as deku_symmetry::Symmetric<()>>⟧.pieces v tt };
-
-    ghost same_for_c = { ⟦<Chassis as deku_symmetry::Symmetric<()>>⟧.same };
-
-    fn law_for_c() {
-        deku_c_records::law_of::<Chassis>()
-    }
-}
 
 /// Reads the record from the first byte on. Returns 0, or the number of the error; the record then
 /// stays as it was.

@@ -143,6 +143,8 @@ impl DekuWriter<()> for SpacePacket {
 }
 
 impl Record<()> for SpacePacket {
+    type Layout = SpacePacketParts;
+
     ghost reads = { λ c b s r u m. m };
 
     ghost writes = { λ c v b s r u m. m };
@@ -211,6 +213,8 @@ impl DekuWriter<()> for TelemetrySample {
 }
 
 impl Record<()> for TelemetrySample {
+    type Layout = TelemetrySampleParts;
+
     ghost reads = { λ c b s r u m. m };
 
     ghost writes = { λ c v b s r u m. m };
@@ -219,16 +223,6 @@ impl Record<()> for TelemetrySample {
 impl DekuContainerRead for TelemetrySample {}
 
 impl DekuContainerWrite for TelemetrySample {}
-
-impl deku_c_records::LawForC for SpacePacket {
-    ghost pieces_for_c = { λ v. ⟦<SpacePacket as deku_symmetry::Symmetric<()>>⟧.pieces v tt };
-
-    ghost same_for_c = { ⟦<SpacePacket as deku_symmetry::Symmetric<()>>⟧.same };
-
-    fn law_for_c() {
-        deku_c_records::law_of::<SpacePacket>()
-    }
-}
 
 /// Reads the record from the first byte on. Returns 0, or the number of the error; the record then
 /// stays as it was.
@@ -246,16 +240,6 @@ pub extern "C" fn space_packet_write(value: &SpacePacket, bytes: &mut [u8]) -> u
     ensures { ⟦<SpacePacket as ForC>⟧.writes_for_c value.now bytes.old result bytes.new }
 {
     value.write_for_c(bytes)
-}
-
-impl deku_c_records::LawForC for TelemetrySample {
-    ghost pieces_for_c = { λ v. ⟦<TelemetrySample as deku_symmetry::Symmetric<()>>⟧.pieces v tt };
-
-    ghost same_for_c = { ⟦<TelemetrySample as deku_symmetry::Symmetric<()>>⟧.same };
-
-    fn law_for_c() {
-        deku_c_records::law_of::<TelemetrySample>()
-    }
 }
 
 /// Reads the record from the first byte on. Returns 0, or the number of the error; the record then

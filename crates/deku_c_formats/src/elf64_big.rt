@@ -244,6 +244,8 @@ impl DekuWriter<()> for ElfHeaderBig {
 }
 
 impl Record<()> for ElfHeaderBig {
+    type Layout = ElfHeaderBigParts;
+
     ghost reads = { λ c b s r u m. m };
 
     ghost writes = { λ c v b s r u m. m };
@@ -386,6 +388,8 @@ impl DekuWriter<()> for ElfSegmentBig {
 }
 
 impl Record<()> for ElfSegmentBig {
+    type Layout = ElfSegmentBigParts;
+
     ghost reads = { λ c b s r u m. m };
 
     ghost writes = { λ c v b s r u m. m };
@@ -394,16 +398,6 @@ impl Record<()> for ElfSegmentBig {
 impl DekuContainerRead for ElfSegmentBig {}
 
 impl DekuContainerWrite for ElfSegmentBig {}
-
-impl deku_c_records::LawForC for ElfHeaderBig {
-    ghost pieces_for_c = { λ v. ⟦<ElfHeaderBig as deku_symmetry::Symmetric<()>>⟧.pieces v tt };
-
-    ghost same_for_c = { ⟦<ElfHeaderBig as deku_symmetry::Symmetric<()>>⟧.same };
-
-    fn law_for_c() {
-        deku_c_records::law_of::<ElfHeaderBig>()
-    }
-}
 
 /// Reads the record from the first byte on. Returns 0, or the number of the error; the record then
 /// stays as it was.
@@ -421,16 +415,6 @@ pub extern "C" fn elf_header_big_write(value: &ElfHeaderBig, bytes: &mut [u8]) -
     ensures { ⟦<ElfHeaderBig as ForC>⟧.writes_for_c value.now bytes.old result bytes.new }
 {
     value.write_for_c(bytes)
-}
-
-impl deku_c_records::LawForC for ElfSegmentBig {
-    ghost pieces_for_c = { λ v. ⟦<ElfSegmentBig as deku_symmetry::Symmetric<()>>⟧.pieces v tt };
-
-    ghost same_for_c = { ⟦<ElfSegmentBig as deku_symmetry::Symmetric<()>>⟧.same };
-
-    fn law_for_c() {
-        deku_c_records::law_of::<ElfSegmentBig>()
-    }
 }
 
 /// Reads the record from the first byte on. Returns 0, or the number of the error; the record then

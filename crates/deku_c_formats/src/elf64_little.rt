@@ -244,6 +244,8 @@ impl DekuWriter<()> for ElfHeaderLittle {
 }
 
 impl Record<()> for ElfHeaderLittle {
+    type Layout = ElfHeaderLittleParts;
+
     ghost reads = { λ c b s r u m. m };
 
     ghost writes = { λ c v b s r u m. m };
@@ -386,6 +388,8 @@ impl DekuWriter<()> for ElfSegmentLittle {
 }
 
 impl Record<()> for ElfSegmentLittle {
+    type Layout = ElfSegmentLittleParts;
+
     ghost reads = { λ c b s r u m. m };
 
     ghost writes = { λ c v b s r u m. m };
@@ -394,16 +398,6 @@ impl Record<()> for ElfSegmentLittle {
 impl DekuContainerRead for ElfSegmentLittle {}
 
 impl DekuContainerWrite for ElfSegmentLittle {}
-
-impl deku_c_records::LawForC for ElfHeaderLittle {
-    ghost pieces_for_c = { λ v. ⟦<ElfHeaderLittle as deku_symmetry::Symmetric<()>>⟧.pieces v tt };
-
-    ghost same_for_c = { ⟦<ElfHeaderLittle as deku_symmetry::Symmetric<()>>⟧.same };
-
-    fn law_for_c() {
-        deku_c_records::law_of::<ElfHeaderLittle>()
-    }
-}
 
 /// Reads the record from the first byte on. Returns 0, or the number of the error; the record then
 /// stays as it was.
@@ -425,16 +419,6 @@ pub extern "C" fn elf_header_little_write(value: &ElfHeaderLittle, bytes: &mut [
     ensures { ⟦<ElfHeaderLittle as ForC>⟧.writes_for_c value.now bytes.old result bytes.new }
 {
     value.write_for_c(bytes)
-}
-
-impl deku_c_records::LawForC for ElfSegmentLittle {
-    ghost pieces_for_c = { λ v. ⟦<ElfSegmentLittle as deku_symmetry::Symmetric<()>>⟧.pieces v tt };
-
-    ghost same_for_c = { ⟦<ElfSegmentLittle as deku_symmetry::Symmetric<()>>⟧.same };
-
-    fn law_for_c() {
-        deku_c_records::law_of::<ElfSegmentLittle>()
-    }
 }
 
 /// Reads the record from the first byte on. Returns 0, or the number of the error; the record then

@@ -123,6 +123,8 @@ impl DekuWriter<()> for RiscvRegister {
 }
 
 impl Record<()> for RiscvRegister {
+    type Layout = RiscvRegisterParts;
+
     ghost reads = { λ c b s r u m. m };
 
     ghost writes = { λ c v b s r u m. m };
@@ -218,6 +220,8 @@ impl DekuWriter<()> for RiscvImmediate {
 }
 
 impl Record<()> for RiscvImmediate {
+    type Layout = RiscvImmediateParts;
+
     ghost reads = { λ c b s r u m. m };
 
     ghost writes = { λ c v b s r u m. m };
@@ -332,6 +336,8 @@ impl DekuWriter<()> for RiscvStore {
 }
 
 impl Record<()> for RiscvStore {
+    type Layout = RiscvStoreParts;
+
     ghost reads = { λ c b s r u m. m };
 
     ghost writes = { λ c v b s r u m. m };
@@ -340,16 +346,6 @@ impl Record<()> for RiscvStore {
 impl DekuContainerRead for RiscvStore {}
 
 impl DekuContainerWrite for RiscvStore {}
-
-impl deku_c_records::LawForC for RiscvRegister {
-    ghost pieces_for_c = { λ v. ⟦<RiscvRegister as deku_symmetry::Symmetric<()>>⟧.pieces v tt };
-
-    ghost same_for_c = { ⟦<RiscvRegister as deku_symmetry::Symmetric<()>>⟧.same };
-
-    fn law_for_c() {
-        deku_c_records::law_of::<RiscvRegister>()
-    }
-}
 
 /// Reads the record from the first byte on. Returns 0, or the number of the error; the record then
 /// stays as it was.
@@ -367,16 +363,6 @@ pub extern "C" fn riscv_register_write(value: &RiscvRegister, bytes: &mut [u8]) 
     ensures { ⟦<RiscvRegister as ForC>⟧.writes_for_c value.now bytes.old result bytes.new }
 {
     value.write_for_c(bytes)
-}
-
-impl deku_c_records::LawForC for RiscvImmediate {
-    ghost pieces_for_c = { λ v. ⟦<RiscvImmediate as deku_symmetry::Symmetric<()>>⟧.pieces v tt };
-
-    ghost same_for_c = { ⟦<RiscvImmediate as deku_symmetry::Symmetric<()>>⟧.same };
-
-    fn law_for_c() {
-        deku_c_records::law_of::<RiscvImmediate>()
-    }
 }
 
 /// Reads the record from the first byte on. Returns 0, or the number of the error; the record then
@@ -399,16 +385,6 @@ pub extern "C" fn riscv_immediate_write(value: &RiscvImmediate, bytes: &mut [u8]
     ensures { ⟦<RiscvImmediate as ForC>⟧.writes_for_c value.now bytes.old result bytes.new }
 {
     value.write_for_c(bytes)
-}
-
-impl deku_c_records::LawForC for RiscvStore {
-    ghost pieces_for_c = { λ v. ⟦<RiscvStore as deku_symmetry::Symmetric<()>>⟧.pieces v tt };
-
-    ghost same_for_c = { ⟦<RiscvStore as deku_symmetry::Symmetric<()>>⟧.same };
-
-    fn law_for_c() {
-        deku_c_records::law_of::<RiscvStore>()
-    }
 }
 
 /// Reads the record from the first byte on. Returns 0, or the number of the error; the record then

@@ -146,6 +146,8 @@ impl DekuWriter<()> for RiscvBranch {
 }
 
 impl Record<()> for RiscvBranch {
+    type Layout = RiscvBranchParts;
+
     ghost reads = { λ c b s r u m. m };
 
     ghost writes = { λ c v b s r u m. m };
@@ -222,6 +224,8 @@ impl DekuWriter<()> for RiscvUpper {
 }
 
 impl Record<()> for RiscvUpper {
+    type Layout = RiscvUpperParts;
+
     ghost reads = { λ c b s r u m. m };
 
     ghost writes = { λ c v b s r u m. m };
@@ -337,6 +341,8 @@ impl DekuWriter<()> for RiscvJump {
 }
 
 impl Record<()> for RiscvJump {
+    type Layout = RiscvJumpParts;
+
     ghost reads = { λ c b s r u m. m };
 
     ghost writes = { λ c v b s r u m. m };
@@ -345,16 +351,6 @@ impl Record<()> for RiscvJump {
 impl DekuContainerRead for RiscvJump {}
 
 impl DekuContainerWrite for RiscvJump {}
-
-impl deku_c_records::LawForC for RiscvBranch {
-    ghost pieces_for_c = { λ v. ⟦<RiscvBranch as deku_symmetry::Symmetric<()>>⟧.pieces v tt };
-
-    ghost same_for_c = { ⟦<RiscvBranch as deku_symmetry::Symmetric<()>>⟧.same };
-
-    fn law_for_c() {
-        deku_c_records::law_of::<RiscvBranch>()
-    }
-}
 
 /// Reads the record from the first byte on. Returns 0, or the number of the error; the record then
 /// stays as it was.
@@ -374,16 +370,6 @@ pub extern "C" fn riscv_branch_write(value: &RiscvBranch, bytes: &mut [u8]) -> u
     value.write_for_c(bytes)
 }
 
-impl deku_c_records::LawForC for RiscvUpper {
-    ghost pieces_for_c = { λ v. ⟦<RiscvUpper as deku_symmetry::Symmetric<()>>⟧.pieces v tt };
-
-    ghost same_for_c = { ⟦<RiscvUpper as deku_symmetry::Symmetric<()>>⟧.same };
-
-    fn law_for_c() {
-        deku_c_records::law_of::<RiscvUpper>()
-    }
-}
-
 /// Reads the record from the first byte on. Returns 0, or the number of the error; the record then
 /// stays as it was.
 #[unsafe(no_mangle)]
@@ -400,16 +386,6 @@ pub extern "C" fn riscv_upper_write(value: &RiscvUpper, bytes: &mut [u8]) -> u32
     ensures { ⟦<RiscvUpper as ForC>⟧.writes_for_c value.now bytes.old result bytes.new }
 {
     value.write_for_c(bytes)
-}
-
-impl deku_c_records::LawForC for RiscvJump {
-    ghost pieces_for_c = { λ v. ⟦<RiscvJump as deku_symmetry::Symmetric<()>>⟧.pieces v tt };
-
-    ghost same_for_c = { ⟦<RiscvJump as deku_symmetry::Symmetric<()>>⟧.same };
-
-    fn law_for_c() {
-        deku_c_records::law_of::<RiscvJump>()
-    }
 }
 
 /// Reads the record from the first byte on. Returns 0, or the number of the error; the record then

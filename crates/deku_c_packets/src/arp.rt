@@ -152,6 +152,8 @@ impl DekuWriter<()> for Arp {
 }
 
 impl Record<()> for Arp {
+    type Layout = ArpParts;
+
     ghost reads = { λ c b s r u m. m };
 
     ghost writes = { λ c v b s r u m. m };
@@ -160,16 +162,6 @@ impl Record<()> for Arp {
 impl DekuContainerRead for Arp {}
 
 impl DekuContainerWrite for Arp {}
-
-impl deku_c_records::LawForC for Arp {
-    ghost pieces_for_c = { λ v. ⟦<Arp as deku_symmetry::Symmetric<()>>⟧.pieces v tt };
-
-    ghost same_for_c = { ⟦<Arp as deku_symmetry::Symmetric<()>>⟧.same };
-
-    fn law_for_c() {
-        deku_c_records::law_of::<Arp>()
-    }
-}
 
 /// Reads the record from the first byte on. Returns 0, or the number of the error; the record then
 /// stays as it was.

@@ -198,6 +198,8 @@ impl DekuWriter<()> for DnsHeader {
 }
 
 impl Record<()> for DnsHeader {
+    type Layout = DnsHeaderParts;
+
     ghost reads = { λ c b s r u m. m };
 
     ghost writes = { λ c v b s r u m. m };
@@ -206,16 +208,6 @@ impl Record<()> for DnsHeader {
 impl DekuContainerRead for DnsHeader {}
 
 impl DekuContainerWrite for DnsHeader {}
-
-impl deku_c_records::LawForC for DnsHeader {
-    ghost pieces_for_c = { λ v. ⟦<DnsHeader as deku_symmetry::Symmetric<()>>⟧.pieces v tt };
-
-    ghost same_for_c = { ⟦<DnsHeader as deku_symmetry::Symmetric<()>>⟧.same };
-
-    fn law_for_c() {
-        deku_c_records::law_of::<DnsHeader>()
-    }
-}
 
 /// Reads the record from the first byte on. Returns 0, or the number of the error; the record then
 /// stays as it was.

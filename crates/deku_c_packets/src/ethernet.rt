@@ -83,6 +83,8 @@ impl DekuWriter<()> for EthernetHeader {
 }
 
 impl Record<()> for EthernetHeader {
+    type Layout = EthernetHeaderParts;
+
     ghost reads = { λ c b s r u m. m };
 
     ghost writes = { λ c v b s r u m. m };
@@ -172,6 +174,8 @@ impl DekuWriter<()> for VlanTag {
 }
 
 impl Record<()> for VlanTag {
+    type Layout = VlanTagParts;
+
     ghost reads = { λ c b s r u m. m };
 
     ghost writes = { λ c v b s r u m. m };
@@ -180,16 +184,6 @@ impl Record<()> for VlanTag {
 impl DekuContainerRead for VlanTag {}
 
 impl DekuContainerWrite for VlanTag {}
-
-impl deku_c_records::LawForC for EthernetHeader {
-    ghost pieces_for_c = { λ v. ⟦<EthernetHeader as deku_symmetry::Symmetric<()>>⟧.pieces v tt };
-
-    ghost same_for_c = { ⟦<EthernetHeader as deku_symmetry::Symmetric<()>>⟧.same };
-
-    fn law_for_c() {
-        deku_c_records::law_of::<EthernetHeader>()
-    }
-}
 
 /// Reads the record from the first byte on. Returns 0, or the number of the error; the record then
 /// stays as it was.
@@ -211,16 +205,6 @@ pub extern "C" fn ethernet_header_write(value: &EthernetHeader, bytes: &mut [u8]
     ensures { ⟦<EthernetHeader as ForC>⟧.writes_for_c value.now bytes.old result bytes.new }
 {
     value.write_for_c(bytes)
-}
-
-impl deku_c_records::LawForC for VlanTag {
-    ghost pieces_for_c = { λ v. ⟦<VlanTag as deku_symmetry::Symmetric<()>>⟧.pieces v tt };
-
-    ghost same_for_c = { ⟦<VlanTag as deku_symmetry::Symmetric<()>>⟧.same };
-
-    fn law_for_c() {
-        deku_c_records::law_of::<VlanTag>()
-    }
 }
 
 /// Reads the record from the first byte on. Returns 0, or the number of the error; the record then

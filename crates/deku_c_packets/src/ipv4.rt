@@ -226,6 +226,8 @@ impl DekuWriter<()> for Ipv4 {
 }
 
 impl Record<()> for Ipv4 {
+    type Layout = Ipv4Parts;
+
     ghost reads = { λ c b s r u m. m };
 
     ghost writes = { λ c v b s r u m. m };
@@ -234,16 +236,6 @@ impl Record<()> for Ipv4 {
 impl DekuContainerRead for Ipv4 {}
 
 impl DekuContainerWrite for Ipv4 {}
-
-impl deku_c_records::LawForC for Ipv4 {
-    ghost pieces_for_c = { λ v. ⟦<Ipv4 as deku_symmetry::Symmetric<()>>⟧.pieces v tt };
-
-    ghost same_for_c = { ⟦<Ipv4 as deku_symmetry::Symmetric<()>>⟧.same };
-
-    fn law_for_c() {
-        deku_c_records::law_of::<Ipv4>()
-    }
-}
 
 /// Reads the record from the first byte on. Returns 0, or the number of the error; the record then
 /// stays as it was.

@@ -170,6 +170,8 @@ impl DekuWriter<()> for Ipv6 {
 }
 
 impl Record<()> for Ipv6 {
+    type Layout = Ipv6Parts;
+
     ghost reads = { λ c b s r u m. m };
 
     ghost writes = { λ c v b s r u m. m };
@@ -178,16 +180,6 @@ impl Record<()> for Ipv6 {
 impl DekuContainerRead for Ipv6 {}
 
 impl DekuContainerWrite for Ipv6 {}
-
-impl deku_c_records::LawForC for Ipv6 {
-    ghost pieces_for_c = { λ v. ⟦<Ipv6 as deku_symmetry::Symmetric<()>>⟧.pieces v tt };
-
-    ghost same_for_c = { ⟦<Ipv6 as deku_symmetry::Symmetric<()>>⟧.same };
-
-    fn law_for_c() {
-        deku_c_records::law_of::<Ipv6>()
-    }
-}
 
 /// Reads the record from the first byte on. Returns 0, or the number of the error; the record then
 /// stays as it was.

@@ -181,6 +181,8 @@ impl DekuWriter<()> for Ntp {
 }
 
 impl Record<()> for Ntp {
+    type Layout = NtpParts;
+
     ghost reads = { λ c b s r u m. m };
 
     ghost writes = { λ c v b s r u m. m };
@@ -189,16 +191,6 @@ impl Record<()> for Ntp {
 impl DekuContainerRead for Ntp {}
 
 impl DekuContainerWrite for Ntp {}
-
-impl deku_c_records::LawForC for Ntp {
-    ghost pieces_for_c = { λ v. ⟦<Ntp as deku_symmetry::Symmetric<()>>⟧.pieces v tt };
-
-    ghost same_for_c = { ⟦<Ntp as deku_symmetry::Symmetric<()>>⟧.same };
-
-    fn law_for_c() {
-        deku_c_records::law_of::<Ntp>()
-    }
-}
 
 /// Reads the record from the first byte on. Returns 0, or the number of the error; the record then
 /// stays as it was.

@@ -154,6 +154,8 @@ impl DekuWriter<()> for PcapHeaderLittle {
 }
 
 impl Record<()> for PcapHeaderLittle {
+    type Layout = PcapHeaderLittleParts;
+
     ghost reads = { λ c b s r u m. m };
 
     ghost writes = { λ c v b s r u m. m };
@@ -241,6 +243,8 @@ impl DekuWriter<()> for PcapPacketLittle {
 }
 
 impl Record<()> for PcapPacketLittle {
+    type Layout = PcapPacketLittleParts;
+
     ghost reads = { λ c b s r u m. m };
 
     ghost writes = { λ c v b s r u m. m };
@@ -386,6 +390,8 @@ impl DekuWriter<()> for PcapHeaderBig {
 }
 
 impl Record<()> for PcapHeaderBig {
+    type Layout = PcapHeaderBigParts;
+
     ghost reads = { λ c b s r u m. m };
 
     ghost writes = { λ c v b s r u m. m };
@@ -473,6 +479,8 @@ impl DekuWriter<()> for PcapPacketBig {
 }
 
 impl Record<()> for PcapPacketBig {
+    type Layout = PcapPacketBigParts;
+
     ghost reads = { λ c b s r u m. m };
 
     ghost writes = { λ c v b s r u m. m };
@@ -481,16 +489,6 @@ impl Record<()> for PcapPacketBig {
 impl DekuContainerRead for PcapPacketBig {}
 
 impl DekuContainerWrite for PcapPacketBig {}
-
-impl deku_c_records::LawForC for PcapHeaderLittle {
-    ghost pieces_for_c = { λ v. ⟦<PcapHeaderLittle as deku_symmetry::Symmetric<()>>⟧.pieces v tt };
-
-    ghost same_for_c = { ⟦<PcapHeaderLittle as deku_symmetry::Symmetric<()>>⟧.same };
-
-    fn law_for_c() {
-        deku_c_records::law_of::<PcapHeaderLittle>()
-    }
-}
 
 /// Reads the record from the first byte on. Returns 0, or the number of the error; the record then
 /// stays as it was.
@@ -512,16 +510,6 @@ pub extern "C" fn pcap_header_little_write(value: &PcapHeaderLittle, bytes: &mut
     ensures { ⟦<PcapHeaderLittle as ForC>⟧.writes_for_c value.now bytes.old result bytes.new }
 {
     value.write_for_c(bytes)
-}
-
-impl deku_c_records::LawForC for PcapPacketLittle {
-    ghost pieces_for_c = { λ v. ⟦<PcapPacketLittle as deku_symmetry::Symmetric<()>>⟧.pieces v tt };
-
-    ghost same_for_c = { ⟦<PcapPacketLittle as deku_symmetry::Symmetric<()>>⟧.same };
-
-    fn law_for_c() {
-        deku_c_records::law_of::<PcapPacketLittle>()
-    }
 }
 
 /// Reads the record from the first byte on. Returns 0, or the number of the error; the record then
@@ -546,16 +534,6 @@ pub extern "C" fn pcap_packet_little_write(value: &PcapPacketLittle, bytes: &mut
     value.write_for_c(bytes)
 }
 
-impl deku_c_records::LawForC for PcapHeaderBig {
-    ghost pieces_for_c = { λ v. ⟦<PcapHeaderBig as deku_symmetry::Symmetric<()>>⟧.pieces v tt };
-
-    ghost same_for_c = { ⟦<PcapHeaderBig as deku_symmetry::Symmetric<()>>⟧.same };
-
-    fn law_for_c() {
-        deku_c_records::law_of::<PcapHeaderBig>()
-    }
-}
-
 /// Reads the record from the first byte on. Returns 0, or the number of the error; the record then
 /// stays as it was.
 #[unsafe(no_mangle)]
@@ -576,16 +554,6 @@ pub extern "C" fn pcap_header_big_write(value: &PcapHeaderBig, bytes: &mut [u8])
     ensures { ⟦<PcapHeaderBig as ForC>⟧.writes_for_c value.now bytes.old result bytes.new }
 {
     value.write_for_c(bytes)
-}
-
-impl deku_c_records::LawForC for PcapPacketBig {
-    ghost pieces_for_c = { λ v. ⟦<PcapPacketBig as deku_symmetry::Symmetric<()>>⟧.pieces v tt };
-
-    ghost same_for_c = { ⟦<PcapPacketBig as deku_symmetry::Symmetric<()>>⟧.same };
-
-    fn law_for_c() {
-        deku_c_records::law_of::<PcapPacketBig>()
-    }
 }
 
 /// Reads the record from the first byte on. Returns 0, or the number of the error; the record then

@@ -227,6 +227,8 @@ impl DekuWriter<()> for TcpHeader {
 }
 
 impl Record<()> for TcpHeader {
+    type Layout = TcpHeaderParts;
+
     ghost reads = { λ c b s r u m. m };
 
     ghost writes = { λ c v b s r u m. m };
@@ -235,16 +237,6 @@ impl Record<()> for TcpHeader {
 impl DekuContainerRead for TcpHeader {}
 
 impl DekuContainerWrite for TcpHeader {}
-
-impl deku_c_records::LawForC for TcpHeader {
-    ghost pieces_for_c = { λ v. ⟦<TcpHeader as deku_symmetry::Symmetric<()>>⟧.pieces v tt };
-
-    ghost same_for_c = { ⟦<TcpHeader as deku_symmetry::Symmetric<()>>⟧.same };
-
-    fn law_for_c() {
-        deku_c_records::law_of::<TcpHeader>()
-    }
-}
 
 /// Reads the record from the first byte on. Returns 0, or the number of the error; the record then
 /// stays as it was.

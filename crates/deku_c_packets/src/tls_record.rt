@@ -82,6 +82,8 @@ impl DekuWriter<()> for TlsRecord {
 }
 
 impl Record<()> for TlsRecord {
+    type Layout = TlsRecordParts;
+
     ghost reads = { λ c b s r u m. m };
 
     ghost writes = { λ c v b s r u m. m };
@@ -90,16 +92,6 @@ impl Record<()> for TlsRecord {
 impl DekuContainerRead for TlsRecord {}
 
 impl DekuContainerWrite for TlsRecord {}
-
-impl deku_c_records::LawForC for TlsRecord {
-    ghost pieces_for_c = { λ v. ⟦<TlsRecord as deku_symmetry::Symmetric<()>>⟧.pieces v tt };
-
-    ghost same_for_c = { ⟦<TlsRecord as deku_symmetry::Symmetric<()>>⟧.same };
-
-    fn law_for_c() {
-        deku_c_records::law_of::<TlsRecord>()
-    }
-}
 
 /// Reads the record from the first byte on. Returns 0, or the number of the error; the record then
 /// stays as it was.

@@ -95,6 +95,8 @@ impl DekuWriter<()> for Udp {
 }
 
 impl Record<()> for Udp {
+    type Layout = UdpParts;
+
     ghost reads = { λ c b s r u m. m };
 
     ghost writes = { λ c v b s r u m. m };
@@ -103,16 +105,6 @@ impl Record<()> for Udp {
 impl DekuContainerRead for Udp {}
 
 impl DekuContainerWrite for Udp {}
-
-impl deku_c_records::LawForC for Udp {
-    ghost pieces_for_c = { λ v. ⟦<Udp as deku_symmetry::Symmetric<()>>⟧.pieces v tt };
-
-    ghost same_for_c = { ⟦<Udp as deku_symmetry::Symmetric<()>>⟧.same };
-
-    fn law_for_c() {
-        deku_c_records::law_of::<Udp>()
-    }
-}
 
 /// Reads the record from the first byte on. Returns 0, or the number of the error; the record then
 /// stays as it was.

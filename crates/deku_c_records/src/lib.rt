@@ -5,5 +5,5 @@
 mod records;
 mod status;
 
-pub use records::{ForC, LawForC, law_of};
+pub use records::ForC;
 pub use status::{OK, status_of};

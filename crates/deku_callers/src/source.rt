@@ -30,7 +30,7 @@ pub fn header_of<R: Source>(alloc: Global, source: &mut R) -> Result<(usize, Udp
 
 // The law of symmetric types, for one type.
 fn symmetric_law<T: Symmetric<()>>()
-    ensures { IsSymmetric (λ v. T.pieces v tt) T.same (λ v. T.DekuWriter.meaning v tt)
+    ensures { IsSymmetric (λ v. T.Part.pieces v tt) T.Part.same (λ v. T.DekuWriter.meaning v tt)
         (T.DekuReader.meaning tt) }
 {}
 

@@ -142,6 +142,8 @@ impl DekuWriter<()> for Start {
 }
 
 impl Record<()> for Start {
+    type Layout = StartParts;
+
     ghost reads = { λ c b s r u m. m };
 
     ghost writes = { λ c v b s r u m. m };
@@ -244,6 +246,8 @@ impl DekuWriter<()> for BigFields {
 }
 
 impl Record<()> for BigFields {
+    type Layout = BigFieldsParts;
+
     ghost reads = { λ c b s r u m. m };
 
     ghost writes = { λ c v b s r u m. m };
@@ -346,6 +350,8 @@ impl DekuWriter<()> for LittleFields {
 }
 
 impl Record<()> for LittleFields {
+    type Layout = LittleFieldsParts;
+
     ghost reads = { λ c b s r u m. m };
 
     ghost writes = { λ c v b s r u m. m };
@@ -432,6 +438,8 @@ impl DekuWriter<()> for BigPacket {
 }
 
 impl Record<()> for BigPacket {
+    type Layout = BigPacketParts;
+
     ghost reads = { λ c b s r u m. m };
 
     ghost writes = { λ c v b s r u m. m };
@@ -518,6 +526,8 @@ impl DekuWriter<()> for LittlePacket {
 }
 
 impl Record<()> for LittlePacket {
+    type Layout = LittlePacketParts;
+
     ghost reads = { λ c b s r u m. m };
 
     ghost writes = { λ c v b s r u m. m };

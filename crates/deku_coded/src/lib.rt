@@ -9,7 +9,7 @@ use deku::device::{Sink, Source};
 use deku::reader::Reader;
 use deku::writer::Writer;
 use deku::{DekuContainerRead, DekuContainerWrite, DekuError, DekuReader, DekuWriter};
-use deku_symmetry::{FromParts, Symmetric, ToParts};
+use deku_symmetry::{FromParts, Part, Symmetric, ToParts};
 
 /// A record that is read and written as its parts. It has `pack`, `unpack`, `to_bytes` and
 /// `from_bytes`, and can be a part of other records.
@@ -65,14 +65,25 @@ where
 {}
 
 /// The pieces of the parts.
+impl<E: FromParts> Part<()> for Coded<E>
+where
+    E::Parts: Part<()>,
+{
+    ghost pieces = { λ v c. E.Parts.pieces (E.parts_of v.0) c };
+
+    ghost same = { λ v w. E.Parts.same (E.parts_of v.0) (E.parts_of w.0) };
+
+    ghost reads = { λ c. Then (E.Parts.reads c) (Shows (λ w. E.parts_of w.0)) };
+
+    ghost writes = { λ v c. E.Parts.writes (E.parts_of v.0) c };
+
+    ghost law = { λ c. shown_symmetric (λ v. E.parts_of v.0) _ _ _ _ (E.Parts.law c) };
+}
+
 impl<E: ToParts> Symmetric<()> for Coded<E>
 where
     E::Parts: Symmetric<()>,
 {
-    ghost pieces = { λ v c. E.Parts.pieces (E.FromParts.parts_of v.0) c };
-
-    ghost same = { λ v w. E.Parts.same (E.FromParts.parts_of v.0) (E.FromParts.parts_of w.0) };
-
     ghost symmetric = { λ c. shown_symmetric (λ v. E.FromParts.parts_of v.0) _ _ _ _
         (E.Parts.symmetric c) };
 }

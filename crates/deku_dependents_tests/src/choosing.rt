@@ -169,6 +169,8 @@ impl DekuWriter<()> for Message {
 }
 
 impl Record<()> for Message {
+    type Layout = MessageParts;
+
     ghost reads = { λ c b s r u m. m };
 
     ghost writes = { λ c v b s r u m. m };
@@ -236,6 +238,8 @@ impl DekuWriter<()> for Place {
 }
 
 impl Record<()> for Place {
+    type Layout = PlaceParts;
+
     ghost reads = { λ c b s r u m. m };
 
     ghost writes = { λ c v b s r u m. m };
@@ -429,6 +433,8 @@ impl DekuWriter<()> for Steps {
 }
 
 impl Record<()> for Steps {
+    type Layout = StepsParts;
+
     ghost reads = { λ c b s r u m. m };
 
     ghost writes = { λ c v b s r u m. m };
@@ -531,6 +537,8 @@ impl DekuWriter<()> for Walk {
 }
 
 impl Record<()> for Walk {
+    type Layout = WalkParts;
+
     ghost reads = { λ c b s r u m. m };
 
     ghost writes = { λ c v b s r u m. m };

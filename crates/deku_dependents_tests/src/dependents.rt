@@ -17,8 +17,8 @@ use deku::prelude::{
 };
 use deku_symmetry::{
     Be, Condition, ConditionLaw, CountOf, CountOfLaw, CountedBy, CountedByRef, FilledBy, FromParts,
-    Msb, Optional, OptionalRef, Prefixed, PrefixedRef, Record, Rest, SizeOf, SizeOfLaw, SizedBy,
-    ToParts, read_record, write_record,
+    Msb, Optional, OptionalRef, Prefixed, PrefixedRef, Record, RecordLast, Rest, SizeOf, SizeOfLaw,
+    SizedBy, ToParts, read_record, write_record,
 };
 use std::marker::PhantomData;
 
@@ -101,6 +101,8 @@ impl DekuWriter<()> for Counting {
 }
 
 impl Record<()> for Counting {
+    type Layout = CountingParts;
+
     ghost reads = { λ c b s r u m. m };
 
     ghost writes = { λ c v b s r u m. m };
@@ -189,6 +191,8 @@ impl DekuWriter<()> for Updating {
 }
 
 impl Record<()> for Updating {
+    type Layout = UpdatingParts;
+
     ghost reads = { λ c b s r u m. m };
 
     ghost writes = { λ c v b s r u m. m };
@@ -349,6 +353,8 @@ impl DekuWriter<()> for UpdatingTwo {
 }
 
 impl Record<()> for UpdatingTwo {
+    type Layout = UpdatingTwoParts;
+
     ghost reads = { λ c b s r u m. m };
 
     ghost writes = { λ c v b s r u m. m };
@@ -434,6 +440,8 @@ impl DekuWriter<()> for Alone {
 }
 
 impl Record<()> for Alone {
+    type Layout = AloneParts;
+
     ghost reads = { λ c b s r u m. m };
 
     ghost writes = { λ c v b s r u m. m };
@@ -501,6 +509,8 @@ impl DekuWriter<()> for Two {
 }
 
 impl Record<()> for Two {
+    type Layout = TwoParts;
+
     ghost reads = { λ c b s r u m. m };
 
     ghost writes = { λ c v b s r u m. m };
@@ -589,6 +599,8 @@ impl DekuWriter<()> for Sizing {
 }
 
 impl Record<()> for Sizing {
+    type Layout = SizingParts;
+
     ghost reads = { λ c b s r u m. m };
 
     ghost writes = { λ c v b s r u m. m };
@@ -649,10 +661,12 @@ impl DekuWriter<()> for ToEnd {
     }
 }
 
-impl Record<()> for ToEnd {
-    ghost reads = { λ c b s r u m. m };
+impl RecordLast for ToEnd {
+    type Layout = ToEndParts;
 
-    ghost writes = { λ c v b s r u m. m };
+    ghost reads = { λ b s r u m. m };
+
+    ghost writes = { λ v b s r u m. m };
 }
 
 impl DekuContainerRead for ToEnd {}
@@ -738,6 +752,8 @@ impl DekuWriter<()> for Whether {
 }
 
 impl Record<()> for Whether {
+    type Layout = WhetherParts;
+
     ghost reads = { λ c b s r u m. m };
 
     ghost writes = { λ c v b s r u m. m };

@@ -13,7 +13,7 @@ use deku::prelude::{
 };
 use deku_symmetry::{
     Be, Before, CountOf, CountOfLaw, CountedBy, CountedByRef, FromParts, Last, LastLaw, Le, MsbLe,
-    Record, Rest, Until, UntilRef, read_record,
+    Record, RecordLast, Rest, Until, UntilRef, read_record,
 };
 use std::marker::PhantomData;
 
@@ -98,6 +98,8 @@ impl DekuWriter<()> for Text {
 }
 
 impl Record<()> for Text {
+    type Layout = TextParts;
+
     ghost reads = { λ c b s r u m. m };
 
     ghost writes = { λ c v b s r u m. m };
@@ -179,6 +181,8 @@ impl DekuWriter<()> for Numbers {
 }
 
 impl Record<()> for Numbers {
+    type Layout = NumbersParts;
+
     ghost reads = { λ c b s r u m. m };
 
     ghost writes = { λ c v b s r u m. m };
@@ -324,6 +328,8 @@ impl DekuWriter<()> for Halves {
 }
 
 impl Record<()> for Halves {
+    type Layout = HalvesParts;
+
     ghost reads = { λ c b s r u m. m };
 
     ghost writes = { λ c v b s r u m. m };
@@ -480,6 +486,8 @@ impl DekuWriter<()> for Lists {
 }
 
 impl Record<()> for Lists {
+    type Layout = ListsParts;
+
     ghost reads = { λ c b s r u m. m };
 
     ghost writes = { λ c v b s r u m. m };
@@ -571,10 +579,12 @@ impl DekuWriter<()> for TextAndRest {
     }
 }
 
-impl Record<()> for TextAndRest {
-    ghost reads = { λ c b s r u m. m };
+impl RecordLast for TextAndRest {
+    type Layout = TextAndRestParts;
 
-    ghost writes = { λ c v b s r u m. m };
+    ghost reads = { λ b s r u m. m };
+
+    ghost writes = { λ v b s r u m. m };
 }
 
 impl DekuContainerRead for TextAndRest {}

@@ -96,6 +96,8 @@ impl DekuWriter<()> for Label {
 }
 
 impl Record<()> for Label {
+    type Layout = LabelParts;
+
     ghost reads = { λ c b s r u m. m };
 
     ghost writes = { λ c v b s r u m. m };
@@ -181,6 +183,8 @@ impl DekuWriter<()> for Name {
 }
 
 impl Record<()> for Name {
+    type Layout = NameParts;
+
     ghost reads = { λ c b s r u m. m };
 
     ghost writes = { λ c v b s r u m. m };
@@ -277,6 +281,8 @@ impl DekuWriter<()> for Entry {
 }
 
 impl Record<()> for Entry {
+    type Layout = EntryParts;
+
     ghost reads = { λ c b s r u m. m };
 
     ghost writes = { λ c v b s r u m. m };
@@ -359,6 +365,8 @@ impl DekuWriter<()> for Entries {
 }
 
 impl Record<()> for Entries {
+    type Layout = EntriesParts;
+
     ghost reads = { λ c b s r u m. m };
 
     ghost writes = { λ c v b s r u m. m };

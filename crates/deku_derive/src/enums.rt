@@ -163,7 +163,7 @@ pub(crate) fn implementation<'a>(
     if is_given {
         return Ok(());
     }
-    traits(out, name, "write_record(self, writer, ctx)")
+    traits(out, name, "write_record(self, writer, ctx)", false)
 }
 
 const IDS: &str = "
@@ -189,7 +189,7 @@ fn lent<'a>(
     }
     body.push_str("\n        }")?;
     let body = arena.keep(body.as_str())?;
-    traits(out, name, body)
+    traits(out, name, body, false)
 }
 
 const ANSWER: &str = "

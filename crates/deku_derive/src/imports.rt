@@ -8,7 +8,7 @@ use std::alloc::AllocError;
 use std::fmt::Write as _;
 
 // The names of deku_symmetry, in the order in which `rt fmt` has them.
-const PARTS: [&str; 55] = [
+const PARTS: [&str; 56] = [
     "Assert",
     "Be",
     "Before",
@@ -52,6 +52,7 @@ const PARTS: [&str; 55] = [
     "Prefixed",
     "PrefixedRef",
     "Record",
+    "RecordLast",
     "Rest",
     "SizeOf",
     "SizeOfLaw",

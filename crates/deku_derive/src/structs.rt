@@ -146,9 +146,9 @@ pub(crate) fn implementation<'a>(
         part.texts.value.print(&mut parts, 8, 0, false)?;
         let parts = arena.keep(parts.as_str())?;
         fill(out, TO_PARTS, &[("name", name), ("parts", parts)])?;
-        return traits(out, name, "write_record(self, writer, ctx)");
+        return traits(out, name, "write_record(self, writer, ctx)", false);
     }
-    traits(out, name, body(arena, whole)?)?;
+    traits(out, name, body(arena, whole)?, whole.is_open)?;
     update(arena, out, name, fields)
 }
 
@@ -204,10 +204,12 @@ impl DekuWriter<()> for $name$ {
     }
 }
 
-impl Record<()> for $name$ {
-    ghost reads = { λ c b s r u m. m };
+impl $record$ for $name$ {
+    type Layout = $name$Parts;
 
-    ghost writes = { λ c v b s r u m. m };
+    ghost reads = { λ $under$b s r u m. m };
+
+    ghost writes = { λ $under$v b s r u m. m };
 }
 
 impl DekuContainerRead for $name$ {}
@@ -215,10 +217,28 @@ impl DekuContainerRead for $name$ {}
 impl DekuContainerWrite for $name$ {}
 ";
 
-/// Appends the traits of deku for a record that is written by this body.
-pub(crate) fn traits<'w>(out: &mut String, name: &'w str, body: &'w str) -> Result<(), AllocError> {
+/// Appends the traits of deku for a record that is written by this body. It may take the rest of
+/// the input.
+pub(crate) fn traits<'w>(
+    out: &mut String,
+    name: &'w str,
+    body: &'w str,
+    is_open: bool,
+) -> Result<(), AllocError> {
     let ctx = if body.contains("ctx") { "ctx" } else { "_ctx" };
-    fill(out, TRAITS, &[("name", name), ("ctx", ctx), ("body", body)])
+    let (record, under) = if is_open {
+        ("RecordLast", "")
+    } else {
+        ("Record<()>", "c ")
+    };
+    let words = [
+        ("name", name),
+        ("ctx", ctx),
+        ("body", body),
+        ("record", record),
+        ("under", under),
+    ];
+    fill(out, TRAITS, &words)
 }
 
 const NAMES: &str = "

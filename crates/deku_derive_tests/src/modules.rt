@@ -113,6 +113,8 @@ impl DekuWriter<()> for Udp {
 }
 
 impl Record<()> for Udp {
+    type Layout = UdpParts;
+
     ghost reads = { λ c b s r u m. m };
 
     ghost writes = { λ c v b s r u m. m };
@@ -211,6 +213,8 @@ impl DekuWriter<()> for Pair {
 }
 
 impl Record<()> for Pair {
+    type Layout = PairParts;
+
     ghost reads = { λ c b s r u m. m };
 
     ghost writes = { λ c v b s r u m. m };
@@ -299,6 +303,8 @@ impl DekuWriter<()> for Host {
 }
 
 impl Record<()> for Host {
+    type Layout = HostParts;
+
     ghost reads = { λ c b s r u m. m };
 
     ghost writes = { λ c v b s r u m. m };

@@ -120,6 +120,8 @@ impl DekuWriter<()> for Position {
 }
 
 impl Record<()> for Position {
+    type Layout = PositionParts;
+
     ghost reads = { λ c b s r u m. m };
 
     ghost writes = { λ c v b s r u m. m };
@@ -230,6 +232,8 @@ impl DekuWriter<()> for Event {
 }
 
 impl Record<()> for Event {
+    type Layout = EventParts;
+
     ghost reads = { λ c b s r u m. m };
 
     ghost writes = { λ c v b s r u m. m };
@@ -464,6 +468,8 @@ impl DekuWriter<()> for Block {
 }
 
 impl Record<()> for Block {
+    type Layout = BlockParts;
+
     ghost reads = { λ c b s r u m. m };
 
     ghost writes = { λ c v b s r u m. m };
@@ -531,6 +537,8 @@ impl DekuWriter<()> for Pair {
 }
 
 impl Record<()> for Pair {
+    type Layout = PairParts;
+
     ghost reads = { λ c b s r u m. m };
 
     ghost writes = { λ c v b s r u m. m };

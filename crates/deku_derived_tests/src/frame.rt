@@ -130,6 +130,8 @@ impl DekuWriter<()> for Range {
 }
 
 impl Record<()> for Range {
+    type Layout = RangeParts;
+
     ghost reads = { λ c b s r u m. m };
 
     ghost writes = { λ c v b s r u m. m };
@@ -299,6 +301,8 @@ impl DekuWriter<()> for Frame {
 }
 
 impl Record<()> for Frame {
+    type Layout = FrameParts;
+
     ghost reads = { λ c b s r u m. m };
 
     ghost writes = { λ c v b s r u m. m };

@@ -272,6 +272,8 @@ impl DekuWriter<()> for Gre {
 }
 
 impl Record<()> for Gre {
+    type Layout = GreParts;
+
     ghost reads = { λ c b s r u m. m };
 
     ghost writes = { λ c v b s r u m. m };

@@ -13,8 +13,8 @@ use deku::prelude::{
 };
 use deku_symmetry::{
     Be, Before, Condition, ConditionLaw, CountOf, CountOfLaw, CountedBy, CountedByRef, FilledBy,
-    FromParts, Msb, Optional, OptionalRef, Record, Rest, SizeOf, SizeOfLaw, SizedBy, ToParts,
-    read_record, write_record,
+    FromParts, Msb, Optional, OptionalRef, Record, RecordLast, Rest, SizeOf, SizeOfLaw, SizedBy,
+    ToParts, read_record, write_record,
 };
 use std::marker::PhantomData;
 
@@ -76,6 +76,8 @@ impl DekuWriter<()> for Entry {
 }
 
 impl Record<()> for Entry {
+    type Layout = EntryParts;
+
     ghost reads = { λ c b s r u m. m };
 
     ghost writes = { λ c v b s r u m. m };
@@ -195,6 +197,8 @@ impl DekuWriter<()> for Table {
 }
 
 impl Record<()> for Table {
+    type Layout = TableParts;
+
     ghost reads = { λ c b s r u m. m };
 
     ghost writes = { λ c v b s r u m. m };
@@ -339,6 +343,8 @@ impl DekuWriter<()> for Pair {
 }
 
 impl Record<()> for Pair {
+    type Layout = PairParts;
+
     ghost reads = { λ c b s r u m. m };
 
     ghost writes = { λ c v b s r u m. m };
@@ -497,6 +503,8 @@ impl DekuWriter<()> for Late {
 }
 
 impl Record<()> for Late {
+    type Layout = LateParts;
+
     ghost reads = { λ c b s r u m. m };
 
     ghost writes = { λ c v b s r u m. m };
@@ -577,10 +585,12 @@ impl DekuWriter<()> for Log {
     }
 }
 
-impl Record<()> for Log {
-    ghost reads = { λ c b s r u m. m };
+impl RecordLast for Log {
+    type Layout = LogParts;
 
-    ghost writes = { λ c v b s r u m. m };
+    ghost reads = { λ b s r u m. m };
+
+    ghost writes = { λ v b s r u m. m };
 }
 
 impl DekuContainerRead for Log {}

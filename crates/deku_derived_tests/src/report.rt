@@ -92,6 +92,8 @@ impl DekuWriter<()> for Measured {
 }
 
 impl Record<()> for Measured {
+    type Layout = MeasuredParts;
+
     ghost reads = { λ c b s r u m. m };
 
     ghost writes = { λ c v b s r u m. m };
@@ -166,6 +168,8 @@ impl DekuWriter<()> for Report {
 }
 
 impl Record<()> for Report {
+    type Layout = ReportParts;
+
     ghost reads = { λ c b s r u m. m };
 
     ghost writes = { λ c v b s r u m. m };

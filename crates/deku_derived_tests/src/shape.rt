@@ -140,6 +140,8 @@ impl DekuWriter<()> for Shape {
 }
 
 impl Record<()> for Shape {
+    type Layout = ShapeParts;
+
     ghost reads = { λ c b s r u m. m };
 
     ghost writes = { λ c v b s r u m. m };

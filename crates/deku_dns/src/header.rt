@@ -207,6 +207,8 @@ impl DekuWriter<()> for Header {
 }
 
 impl Record<()> for Header {
+    type Layout = HeaderParts;
+
     ghost reads = { λ c b s r u m. m };
 
     ghost writes = { λ c v b s r u m. m };

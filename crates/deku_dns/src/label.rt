@@ -64,6 +64,8 @@ impl ItemCountLaw for Length {
 }
 
 impl Record<()> for Length {
+    type Layout = u8;
+
     ghost reads = { λ c b s r u m. m };
 
     ghost writes = { λ c v b s r u m. m };
@@ -122,6 +124,8 @@ impl FromParts for Label {
 }
 
 impl Record<()> for Label {
+    type Layout = Parts;
+
     ghost reads = { λ c b s r u m. m };
 
     ghost writes = { λ c v b s r u m. m };

@@ -69,6 +69,8 @@ impl DekuWriter<()> for Query {
 }
 
 impl Record<()> for Query {
+    type Layout = QueryParts;
+
     ghost reads = { λ c b s r u m. m };
 
     ghost writes = { λ c v b s r u m. m };

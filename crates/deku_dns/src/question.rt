@@ -77,6 +77,8 @@ impl DekuWriter<()> for Question {
 }
 
 impl Record<()> for Question {
+    type Layout = QuestionParts;
+
     ghost reads = { λ c b s r u m. m };
 
     ghost writes = { λ c v b s r u m. m };

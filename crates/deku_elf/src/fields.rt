@@ -135,6 +135,8 @@ impl ToParts for Fields {
 }
 
 impl Record<Endian> for Fields {
+    type Layout = Parts;
+
     ghost reads = { λ c b s r u m. m };
 
     ghost writes = { λ c v b s r u m. m };

@@ -205,6 +205,8 @@ impl ToParts for Elf {
 }
 
 impl Record<()> for Elf {
+    type Layout = Parts;
+
     ghost reads = { λ c b s r u m. m };
 
     ghost writes = { λ c v b s r u m. m };

@@ -84,6 +84,8 @@ impl ToParts for Segment {
 }
 
 impl Record<Endian> for Segment {
+    type Layout = Parts;
+
     ghost reads = { λ c b s r u m. m };
 
     ghost writes = { λ c v b s r u m. m };

@@ -16,25 +16,11 @@ pub(crate) fn exports<'a>(arena: &'a Arena, module: &Module<'a>) -> Result<&'a s
     for record in module.records {
         let name = record.name.text;
         let function = snake(arena, name)?;
-        fill(&mut out, LAW, &[("name", name)])?;
         reading(arena, &mut out, name, function)?;
         writing(arena, &mut out, name, function)?;
     }
     arena.keep(out.as_str())
 }
-
-// The law of a record, which the two functions ask for.
-const LAW: &str = "
-impl deku_c_records::LawForC for $name$ {
-    ghost pieces_for_c = { λ v. ⟦<$name$ as deku_symmetry::Symmetric<()>>⟧.pieces v tt };
-
-    ghost same_for_c = { ⟦<$name$ as deku_symmetry::Symmetric<()>>⟧.same };
-
-    fn law_for_c() {
-        deku_c_records::law_of::<$name$>()
-    }
-}
-";
 
 const READING: &str = "
 /// Reads the record from the first byte on. Returns 0, or the number of the error; the record then

@@ -127,6 +127,8 @@ impl DekuWriter<()> for Chassis {
 }
 
 impl Record<()> for Chassis {
+    type Layout = ChassisParts;
+
     ghost reads = { λ c b s r u m. m };
 
     ghost writes = { λ c v b s r u m. m };

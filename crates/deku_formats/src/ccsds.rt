@@ -58,6 +58,8 @@ impl FromParts for Telemetry {
 }
 
 impl Record<()> for Telemetry {
+    type Layout = Parts;
+
     ghost reads = { λ c b s r u m. m };
 
     ghost writes = { λ c v b s r u m. m };

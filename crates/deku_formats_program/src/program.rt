@@ -27,7 +27,7 @@ use deku_formats::png::Png;
 use deku_instructions::riscv::instruction::Instruction;
 use deku_network::ipv4::Ipv4;
 use deku_program::{give_text, read_hex_text, tell_fault};
-use deku_symmetry::Symmetric;
+use deku_symmetry::{Part, Symmetric};
 use deku_transport::udp::Udp;
 use itoa::Buffer;
 use std::alloc::{AllocError, AllocFailed, Global};
@@ -100,10 +100,10 @@ pub trait ToldRecord {
 }
 
 impl ToldRecord for Ipv4 {
-    ghost tells = { TellsOf (λ v. ⟦<Ipv4 as Symmetric<()>>⟧.pieces v tt) };
+    ghost tells = { TellsOf (λ v. ⟦<Ipv4 as Part<()>>⟧.pieces v tt) };
 
     ghost stops = { StopsOf (⟦<Ipv4 as DekuReader<()>>⟧.meaning tt)
-        (λ v. ⟦<Ipv4 as Symmetric<()>>⟧.pieces v tt)
+        (λ v. ⟦<Ipv4 as Part<()>>⟧.pieces v tt)
         (λ v. ⟦<Ipv4 as DekuWriter<()>>⟧.meaning v tt) };
 }
 
@@ -112,34 +112,34 @@ pub struct Records;
 
 impl Told for Records {
     ghost tells = { of_format
-        (TellsOf (λ v. ⟦<Chassis as Symmetric<()>>⟧.pieces v tt))
-        (TellsOf (λ v. ⟦<Telemetry as Symmetric<()>>⟧.pieces v tt))
-        (TellsOf (λ v. ⟦<Query as Symmetric<()>>⟧.pieces v tt))
-        (TellsOf (λ v. ⟦<Elf as Symmetric<()>>⟧.pieces v tt))
+        (TellsOf (λ v. ⟦<Chassis as Part<()>>⟧.pieces v tt))
+        (TellsOf (λ v. ⟦<Telemetry as Part<()>>⟧.pieces v tt))
+        (TellsOf (λ v. ⟦<Query as Part<()>>⟧.pieces v tt))
+        (TellsOf (λ v. ⟦<Elf as Part<()>>⟧.pieces v tt))
         ⟦<Ipv4 as ToldRecord>⟧.tells
-        (TellsOf (λ v. ⟦<Png as Symmetric<()>>⟧.pieces v tt))
-        (TellsOf (λ v. ⟦<Instruction as Symmetric<()>>⟧.pieces v tt))
-        (TellsOf (λ v. ⟦<Udp as Symmetric<()>>⟧.pieces v tt)) };
+        (TellsOf (λ v. ⟦<Png as Part<()>>⟧.pieces v tt))
+        (TellsOf (λ v. ⟦<Instruction as Part<()>>⟧.pieces v tt))
+        (TellsOf (λ v. ⟦<Udp as Part<()>>⟧.pieces v tt)) };
 
     ghost stops = { of_format
         (StopsOf (⟦<Chassis as DekuReader<()>>⟧.meaning tt)
-        (λ v. ⟦<Chassis as Symmetric<()>>⟧.pieces v tt)
+        (λ v. ⟦<Chassis as Part<()>>⟧.pieces v tt)
         (λ v. ⟦<Chassis as DekuWriter<()>>⟧.meaning v tt))
         (StopsOf (⟦<Telemetry as DekuReader<()>>⟧.meaning tt)
-        (λ v. ⟦<Telemetry as Symmetric<()>>⟧.pieces v tt)
+        (λ v. ⟦<Telemetry as Part<()>>⟧.pieces v tt)
         (λ v. ⟦<Telemetry as DekuWriter<()>>⟧.meaning v tt))
         (StopsOf (⟦<Query as DekuReader<()>>⟧.meaning tt)
-        (λ v. ⟦<Query as Symmetric<()>>⟧.pieces v tt)
+        (λ v. ⟦<Query as Part<()>>⟧.pieces v tt)
         (λ v. ⟦<Query as DekuWriter<()>>⟧.meaning v tt))
-        (StopsOf (⟦<Elf as DekuReader<()>>⟧.meaning tt) (λ v. ⟦<Elf as Symmetric<()>>⟧.pieces v tt)
+        (StopsOf (⟦<Elf as DekuReader<()>>⟧.meaning tt) (λ v. ⟦<Elf as Part<()>>⟧.pieces v tt)
         (λ v. ⟦<Elf as DekuWriter<()>>⟧.meaning v tt))
         ⟦<Ipv4 as ToldRecord>⟧.stops
-        (StopsOf (⟦<Png as DekuReader<()>>⟧.meaning tt) (λ v. ⟦<Png as Symmetric<()>>⟧.pieces v tt)
+        (StopsOf (⟦<Png as DekuReader<()>>⟧.meaning tt) (λ v. ⟦<Png as Part<()>>⟧.pieces v tt)
         (λ v. ⟦<Png as DekuWriter<()>>⟧.meaning v tt))
         (StopsOf (⟦<Instruction as DekuReader<()>>⟧.meaning tt)
-        (λ v. ⟦<Instruction as Symmetric<()>>⟧.pieces v tt)
+        (λ v. ⟦<Instruction as Part<()>>⟧.pieces v tt)
         (λ v. ⟦<Instruction as DekuWriter<()>>⟧.meaning v tt))
-        (StopsOf (⟦<Udp as DekuReader<()>>⟧.meaning tt) (λ v. ⟦<Udp as Symmetric<()>>⟧.pieces v tt)
+        (StopsOf (⟦<Udp as DekuReader<()>>⟧.meaning tt) (λ v. ⟦<Udp as Part<()>>⟧.pieces v tt)
         (λ v. ⟦<Udp as DekuWriter<()>>⟧.meaning v tt)) };
 }
 
@@ -313,9 +313,9 @@ fn ipv4_text(alloc: Global, bytes: &[u8]) -> Result<String, Failure>
 fn shown<T: Symmetric<()> + Shown>(alloc: Global, bytes: &[u8]) -> Result<String, Failure>
     requires reads { T.DekuReader.accepts tt }
     requires writes { T.DekuWriter.accepts tt }
-    ensures taken { IfOk result (λ text. TellsOf (λ v. T.pieces v tt) bytes.now
+    ensures taken { IfOk result (λ text. TellsOf (λ v. T.Part.pieces v tt) bytes.now
         (string_bytes text)) }
-    ensures stops { IfErr result (StopsOf (T.DekuReader.meaning tt) (λ v. T.pieces v tt)
+    ensures stops { IfErr result (StopsOf (T.DekuReader.meaning tt) (λ v. T.Part.pieces v tt)
         (λ v. T.DekuWriter.meaning v tt) bytes.now) }
 {
     let (bits, record) = match T::unpack(alloc, bytes, ()) {

@@ -18,7 +18,7 @@ use deku::prelude::{
     DekuContainerRead, DekuContainerWrite, DekuEnumExt, DekuError, DekuReader, DekuUpdate,
     DekuWriter, Reader, Writer,
 };
-use deku_symmetry::Symmetric;
+use deku_symmetry::{Part, Symmetric};
 
 pub mod laws;
 
@@ -252,11 +252,19 @@ impl DekuContainerWrite for Frame {}
 
 /// The pieces of the id, the version and the fields. A frame has none if its length is not that of
 /// the payload.
-impl Symmetric<()> for Frame {
+impl Part<()> for Frame {
     ghost pieces = { λ f _. OfFrame f };
 
     ghost same = { SameFrame };
 
+    ghost reads = { λ _. ReadsFrame };
+
+    ghost writes = { λ f _. WritesFrame f };
+
+    ghost law = { λ _. frame_symmetric };
+}
+
+impl Symmetric<()> for Frame {
     ghost symmetric = { λ _. frame_symmetric };
 }
 

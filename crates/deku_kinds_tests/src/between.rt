@@ -230,6 +230,8 @@ impl DekuWriter<()> for Between {
 }
 
 impl Record<()> for Between {
+    type Layout = BetweenParts;
+
     ghost reads = { λ c b s r u m. m };
 
     ghost writes = { λ c v b s r u m. m };

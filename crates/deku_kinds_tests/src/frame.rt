@@ -14,7 +14,7 @@ use deku::prelude::{
 };
 use deku_symmetry::{
     Assert, Be, Before, Check, CheckLaw, Condition, ConditionLaw, CountOf, CountOfLaw, CountedBy,
-    CountedByRef, FromParts, Optional, OptionalRef, Record, Rest, read_record,
+    CountedByRef, FromParts, Optional, OptionalRef, RecordLast, Rest, read_record,
 };
 use std::marker::PhantomData;
 
@@ -282,10 +282,12 @@ impl DekuWriter<()> for Frame {
     }
 }
 
-impl Record<()> for Frame {
-    ghost reads = { λ c b s r u m. m };
+impl RecordLast for Frame {
+    type Layout = FrameParts;
 
-    ghost writes = { λ c v b s r u m. m };
+    ghost reads = { λ b s r u m. m };
+
+    ghost writes = { λ v b s r u m. m };
 }
 
 impl DekuContainerRead for Frame {}

@@ -80,6 +80,8 @@ impl DekuWriter<()> for Mark {
 }
 
 impl Record<()> for Mark {
+    type Layout = MarkParts;
+
     ghost reads = { λ c b s r u m. m };
 
     ghost writes = { λ c v b s r u m. m };
@@ -168,6 +170,8 @@ impl DekuWriter<()> for Path {
 }
 
 impl Record<()> for Path {
+    type Layout = PathParts;
+
     ghost reads = { λ c b s r u m. m };
 
     ghost writes = { λ c v b s r u m. m };
@@ -493,6 +497,8 @@ impl DekuWriter<()> for Event {
 }
 
 impl Record<()> for Event {
+    type Layout = EventParts;
+
     ghost reads = { λ c b s r u m. m };
 
     ghost writes = { λ c v b s r u m. m };
@@ -560,6 +566,8 @@ impl DekuWriter<()> for Log {
 }
 
 impl Record<()> for Log {
+    type Layout = LogParts;
+
     ghost reads = { λ c b s r u m. m };
 
     ghost writes = { λ c v b s r u m. m };

@@ -126,6 +126,8 @@ impl DekuWriter<()> for Measured {
 }
 
 impl Record<()> for Measured {
+    type Layout = MeasuredParts;
+
     ghost reads = { λ c b s r u m. m };
 
     ghost writes = { λ c v b s r u m. m };
@@ -296,6 +298,8 @@ impl DekuWriter<()> for Sums {
 }
 
 impl Record<()> for Sums {
+    type Layout = SumsParts;
+
     ghost reads = { λ c b s r u m. m };
 
     ghost writes = { λ c v b s r u m. m };

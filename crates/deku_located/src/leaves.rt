@@ -40,11 +40,11 @@ impl<T: DekuReader<()>> OnePart for Box<T> {}
 
 impl<P: DekuReader<()>, C: Constant<P>> OnePart for Magic<P, C> {}
 
-impl<I: Id, K: Kinds> OnePart for Enum<I, K> {}
+impl<I: Id + DekuReader<()>, K: Kinds> OnePart for Enum<I, K> {}
 
 impl<H: ItemCount + DekuReader<()>, T: DekuReader<()>> OnePart for Counted<H, T> {}
 
-impl<I: Id, T: DekuReader<()>> OnePart for Prefixed<I, T> {}
+impl<I: Id + DekuReader<()>, T: DekuReader<()>> OnePart for Prefixed<I, T> {}
 
 impl<T: DekuReader<()>, C: Last<T>> OnePart for Until<T, C> {}
 

@@ -80,9 +80,9 @@ where
     requires named { length names.now ≡ E.Parts.Steps.steps }
     ensures meaning { Unpacks (Then (E.Parts.DekuReader.meaning tt) (Shows E.parts_of))
         bytes.now (unplaced result) }
-    ensures back { UnpacksBack (λ v. E.Parts.Symmetric.pieces (E.parts_of v) tt)
-        (λ v w. E.Parts.Symmetric.same (E.parts_of v) (E.parts_of w)) bytes.now (unplaced result) }
-    ensures taken { TakesIts (λ v. E.Parts.Symmetric.pieces (E.parts_of v) tt) bytes.now
+    ensures back { UnpacksBack (λ v. E.Parts.Part.pieces (E.parts_of v) tt)
+        (λ v w. E.Parts.Part.same (E.parts_of v) (E.parts_of w)) bytes.now (unplaced result) }
+    ensures taken { TakesIts (λ v. E.Parts.Part.pieces (E.parts_of v) tt) bytes.now
         (unplaced result) }
     ensures located { IfErr result (IsLocated E.Parts.Steps.placed names.now bytes.now) }
 {

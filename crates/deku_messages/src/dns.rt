@@ -229,6 +229,8 @@ impl DekuWriter<()> for Header {
 }
 
 impl Record<()> for Header {
+    type Layout = HeaderParts;
+
     ghost reads = { λ c b s r u m. m };
 
     ghost writes = { λ c v b s r u m. m };
@@ -319,6 +321,8 @@ impl DekuWriter<()> for Text {
 }
 
 impl Record<()> for Text {
+    type Layout = TextParts;
+
     ghost reads = { λ c b s r u m. m };
 
     ghost writes = { λ c v b s r u m. m };

@@ -194,6 +194,8 @@ impl DekuWriter<()> for Ntp {
 }
 
 impl Record<()> for Ntp {
+    type Layout = NtpParts;
+
     ghost reads = { λ c b s r u m. m };
 
     ghost writes = { λ c v b s r u m. m };

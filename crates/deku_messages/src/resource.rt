@@ -146,6 +146,8 @@ impl DekuWriter<()> for Resource {
 }
 
 impl Record<()> for Resource {
+    type Layout = ResourceParts;
+
     ghost reads = { λ c b s r u m. m };
 
     ghost writes = { λ c v b s r u m. m };
@@ -210,6 +212,8 @@ impl DekuWriter<()> for MailServer {
 }
 
 impl Record<()> for MailServer {
+    type Layout = MailServerParts;
+
     ghost reads = { λ c b s r u m. m };
 
     ghost writes = { λ c v b s r u m. m };
@@ -316,6 +320,8 @@ impl DekuWriter<()> for Authority {
 }
 
 impl Record<()> for Authority {
+    type Layout = AuthorityParts;
+
     ghost reads = { λ c b s r u m. m };
 
     ghost writes = { λ c v b s r u m. m };
@@ -378,6 +384,8 @@ impl DekuWriter<()> for Target {
 }
 
 impl Record<()> for Target {
+    type Layout = TargetParts;
+
     ghost reads = { λ c b s r u m. m };
 
     ghost writes = { λ c v b s r u m. m };

@@ -235,6 +235,8 @@ impl DekuWriter<()> for Rtp {
 }
 
 impl Record<()> for Rtp {
+    type Layout = RtpParts;
+
     ghost reads = { λ c b s r u m. m };
 
     ghost writes = { λ c v b s r u m. m };

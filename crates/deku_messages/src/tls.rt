@@ -85,6 +85,8 @@ impl DekuWriter<()> for Tls {
 }
 
 impl Record<()> for Tls {
+    type Layout = TlsParts;
+
     ghost reads = { λ c b s r u m. m };
 
     ghost writes = { λ c v b s r u m. m };

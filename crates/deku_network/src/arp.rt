@@ -285,6 +285,8 @@ impl DekuWriter<()> for Arp {
 }
 
 impl Record<()> for Arp {
+    type Layout = ArpParts;
+
     ghost reads = { λ c b s r u m. m };
 
     ghost writes = { λ c v b s r u m. m };

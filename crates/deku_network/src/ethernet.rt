@@ -91,6 +91,8 @@ impl DekuWriter<()> for Ethernet {
 }
 
 impl Record<()> for Ethernet {
+    type Layout = EthernetParts;
+
     ghost reads = { λ c b s r u m. m };
 
     ghost writes = { λ c v b s r u m. m };
@@ -179,6 +181,8 @@ impl DekuWriter<()> for Tag {
 }
 
 impl Record<()> for Tag {
+    type Layout = TagParts;
+
     ghost reads = { λ c b s r u m. m };
 
     ghost writes = { λ c v b s r u m. m };

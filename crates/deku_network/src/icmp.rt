@@ -261,6 +261,8 @@ impl DekuWriter<()> for Icmp {
 }
 
 impl Record<()> for Icmp {
+    type Layout = IcmpParts;
+
     ghost reads = { λ c b s r u m. m };
 
     ghost writes = { λ c v b s r u m. m };

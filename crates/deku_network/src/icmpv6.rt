@@ -254,6 +254,8 @@ impl DekuWriter<()> for Icmpv6 {
 }
 
 impl Record<()> for Icmpv6 {
+    type Layout = Icmpv6Parts;
+
     ghost reads = { λ c b s r u m. m };
 
     ghost writes = { λ c v b s r u m. m };

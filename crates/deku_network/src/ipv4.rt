@@ -301,6 +301,8 @@ impl DekuWriter<()> for Ipv4 {
 }
 
 impl Record<()> for Ipv4 {
+    type Layout = Ipv4Parts;
+
     ghost reads = { λ c b s r u m. m };
 
     ghost writes = { λ c v b s r u m. m };

@@ -182,6 +182,8 @@ impl DekuWriter<()> for Ipv6 {
 }
 
 impl Record<()> for Ipv6 {
+    type Layout = Ipv6Parts;
+
     ghost reads = { λ c b s r u m. m };
 
     ghost writes = { λ c v b s r u m. m };
@@ -288,6 +290,8 @@ impl DekuWriter<()> for Options {
 }
 
 impl Record<()> for Options {
+    type Layout = OptionsParts;
+
     ghost reads = { λ c b s r u m. m };
 
     ghost writes = { λ c v b s r u m. m };
@@ -407,6 +411,8 @@ impl DekuWriter<()> for Routing {
 }
 
 impl Record<()> for Routing {
+    type Layout = RoutingParts;
+
     ghost reads = { λ c b s r u m. m };
 
     ghost writes = { λ c v b s r u m. m };
@@ -520,6 +526,8 @@ impl DekuWriter<()> for Fragment {
 }
 
 impl Record<()> for Fragment {
+    type Layout = FragmentParts;
+
     ghost reads = { λ c b s r u m. m };
 
     ghost writes = { λ c v b s r u m. m };

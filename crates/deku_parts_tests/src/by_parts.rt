@@ -106,6 +106,8 @@ impl DekuWriter<()> for Year {
 }
 
 impl Record<()> for Year {
+    type Layout = YearParts;
+
     ghost reads = { λ c b s r u m. m };
 
     ghost writes = { λ c v b s r u m. m };

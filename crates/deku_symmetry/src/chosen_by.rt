@@ -5,9 +5,9 @@ ghost use Rattle.deku_bits.specs.WriterCalls.{Writes};
 ghost use Rattle.deku_pieces.specs.Following.{ReadsUnderHead, IsOfId, OfChosen, WritesChosenBy};
 ghost use Rattle.deku_pieces.proofs.Following.{chosen_by_symmetric};
 
-use crate::either::{Kinds, KindsLaw};
+use crate::either::{Kinds, KindsLaw, SymmetricKinds};
 use crate::record::ToParts;
-use crate::traits::Symmetric;
+use crate::traits::{Part, Symmetric};
 use deku::device::{Sink, Source};
 use deku::reader::Reader;
 use deku::writer::Writer;
@@ -41,9 +41,9 @@ pub trait IdOf<P>: Drop {
 ///     ghost alike = { λ v w e. e.1 };
 /// }
 /// ```
-pub trait IdOfLaw<P: Symmetric<()>>: IdOf<P> {
+pub trait IdOfLaw<P: Part<()>>: IdOf<P> {
     // Heads that are the same give the same id.
-    ghost alike: { (v w : P) → P.Symmetric.same v w → Self.IdOf.id_of v ≡ Self.IdOf.id_of w };
+    ghost alike: { (v w : P) → P.same v w → Self.IdOf.id_of v ≡ Self.IdOf.id_of w };
 }
 
 /// Parts, and after them a value of the kinds `K`: of the kind that `C` says of the parts.
@@ -147,16 +147,27 @@ impl<P: DekuWriter<()>, C: IdOf<P>, K: Kinds> DekuContainerWrite for ChosenBy<P,
 
 /// The pieces of the head, and then those of the value. There are no pieces if the head chooses
 /// another kind.
-impl<P: Symmetric<()>, C: IdOfLaw<P>, K: KindsLaw> Symmetric<()> for ChosenBy<P, C, K> {
-    ghost pieces = { λ v _. OfChosen C.IdOf.id_of K.Kinds.id_of K.Kinds.own (λ h. P.pieces h tt)
+impl<P: Part<()>, C: IdOfLaw<P>, K: KindsLaw> Part<()> for ChosenBy<P, C, K> {
+    ghost pieces = { λ v _. OfChosen C.IdOf.id_of K.KindIds.id_of K.KindIds.own (λ h. P.pieces h tt)
         K.pieces v.head v.kind };
 
     ghost same = { λ v w. P.same v.head w.head × K.same v.kind w.kind };
 
-    ghost symmetric = { λ _. chosen_by_symmetric
-        (λ h k. record { head = h; kind = k; id = record {} })
+    ghost reads = { λ _. ReadsUnderHead (λ h k. record { head = h; kind = k; id = record {} })
+        C.IdOf.id_of (P.reads tt) K.reads };
+
+    ghost writes = { λ v _. WritesChosenBy C.IdOf.id_of K.KindIds.id_of K.KindIds.own
+        (λ h. P.writes h tt) K.writes v.head v.kind };
+
+    ghost law = { λ _. chosen_by_symmetric (λ h k. record { head = h; kind = k; id = record {} })
         (λ v. v.head) (λ v. v.kind) (λ h k. refl) (λ h k. refl) C.IdOf.id_of C.IdOfLaw.alike
-        K.Kinds.id_of K.Kinds.own (P.symmetric tt) K.symmetric };
+        K.KindIds.id_of K.KindIds.own (P.law tt) K.law };
+}
+
+impl<P: Symmetric<()>, C: IdOfLaw<P>, K: SymmetricKinds> Symmetric<()> for ChosenBy<P, C, K> {
+    ghost symmetric = { λ _. chosen_by_symmetric (λ h k. record { head = h; kind = k; id = record {} })
+        (λ v. v.head) (λ v. v.kind) (λ h k. refl) (λ h k. refl) C.IdOf.id_of C.IdOfLaw.alike
+        K.KindIds.id_of K.KindIds.own (P.symmetric tt) K.symmetric };
 }
 
 /// Parts, and a record that is elsewhere in memory: it is written as `ChosenBy` of the parts and of
@@ -186,7 +197,7 @@ where
 {
     ghost accepts = { λ _. P.accepts tt × T.Parts.Kinds.writable };
 
-    ghost meaning = { λ v _. WritesChosenBy C.id_of T.Parts.Kinds.id_of T.Parts.Kinds.own
+    ghost meaning = { λ v _. WritesChosenBy C.id_of T.Parts.KindIds.id_of T.Parts.KindIds.own
         (λ h. P.meaning h tt) T.Parts.Kinds.writes v.head (T.FromParts.parts_of v.value.now) };
 
     #[inline(always)]

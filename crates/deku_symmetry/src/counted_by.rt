@@ -8,7 +8,7 @@ ghost use Rattle.deku_pieces.specs.Pieces.{SameEach};
 ghost use Rattle.deku_pieces.specs.Leading.{OfCounts, ReadsCounted, WritesCounts};
 ghost use Rattle.deku_pieces.proofs.Heads.{counts_symmetric};
 
-use crate::traits::Symmetric;
+use crate::traits::{Part, Symmetric};
 use deku::device::{Sink, Source};
 use deku::reader::Reader;
 use deku::writer::Writer;
@@ -43,9 +43,9 @@ pub trait CountOf<P>: Drop {
 ///     ghost alike = { λ v w e. rw e.1.0 refl };
 /// }
 /// ```
-pub trait CountOfLaw<P: Symmetric<()>>: CountOf<P> {
+pub trait CountOfLaw<P: Part<()>>: CountOf<P> {
     // Heads that are the same give the same count.
-    ghost alike: { (v w : P) → P.Symmetric.same v w
+    ghost alike: { (v w : P) → P.same v w
         → Self.CountOf.count_of v ≡ Self.CountOf.count_of w };
 }
 
@@ -137,14 +137,26 @@ fn write_counts<P: DekuWriter<()>, C: CountOf<P>, T: DekuWriter<()>, W: Sink>(
 
 /// The pieces of the head, and then those of its items. There are no pieces if the number of items
 /// is not the one that the head gives.
-impl<P: Symmetric<()>, C: CountOfLaw<P>, T: Symmetric<()>> Symmetric<()> for CountedBy<P, C, T> {
+impl<P: Part<()>, C: CountOfLaw<P>, T: Part<()>> Part<()> for CountedBy<P, C, T> {
     ghost pieces = { λ v _. OfCounts C.CountOf.count_of (λ h. P.pieces h tt) (λ x. T.pieces x tt)
         v.head v.items };
 
     ghost same = { λ v w. P.same v.head w.head × SameEach T.same v.items.items w.items.items };
 
-    ghost symmetric = { λ _. counts_symmetric
-        (λ h xs. record { head = h; items = xs; count = record {} })
+    ghost reads = { λ _. Then (P.reads tt) (λ h.
+        Mapped (λ xs. record { head = h; items = xs; count = record {} })
+        (ReadsCounted (C.CountOf.count_of h) (T.reads tt))) };
+
+    ghost writes = { λ v _. WritesCounts C.CountOf.count_of (λ h. P.writes h tt)
+        (λ x. T.writes x tt) v.head v.items };
+
+    ghost law = { λ _. counts_symmetric (λ h xs. record { head = h; items = xs; count = record {} })
+        (λ v. v.head) (λ v. v.items) (λ h xs. refl) (λ h xs. refl) C.CountOf.count_of
+        C.CountOfLaw.alike (P.law tt) (T.law tt) };
+}
+
+impl<P: Symmetric<()>, C: CountOfLaw<P>, T: Symmetric<()>> Symmetric<()> for CountedBy<P, C, T> {
+    ghost symmetric = { λ _. counts_symmetric (λ h xs. record { head = h; items = xs; count = record {} })
         (λ v. v.head) (λ v. v.items) (λ h xs. refl) (λ h xs. refl) C.CountOf.count_of
         C.CountOfLaw.alike (P.symmetric tt) (T.symmetric tt) };
 }

@@ -12,20 +12,15 @@ ghost use Rattle.deku_pieces.specs.Symmetric.{IsSymmetric};
 ghost use Rattle.deku_pieces.specs.Ids.{in_range, id_of_either, is_own, UnderOwn, OfEither, SameEither, IfKnown, ReadsEither, WritesEither};
 ghost use Rattle.deku_pieces.proofs.Ids.{one_symmetric, one_knows, range_symmetric, either_symmetric, either_knows};
 
-use crate::traits::Symmetric;
+use crate::traits::{Part, Symmetric};
 use deku::device::{Sink, Source};
 use deku::reader::Reader;
 use deku::writer::Writer;
 use deku::{DekuError, DekuReader, DekuWriter};
 use deku_pieces::{Either, InRange, Kind};
 
-/// Values of one or several kinds, each of which has an id. They are read under an id that was read
-/// before them, and written after it.
-///
-/// ```text
-/// type Kinds = Either<Kind<Be<u16>, 1>, Kind<(), 2>>;         // these are kinds of values
-/// ```
-pub trait Kinds: Drop {
+/// The ids of values of one or several kinds.
+pub trait KindIds {
     // Which ids choose a value of these kinds.
     ghost knows: { ℕ → Bool };
 
@@ -34,7 +29,15 @@ pub trait Kinds: Drop {
 
     // Whether the id of a value chooses its kind.
     ghost own: { Self → Bool };
+}
 
+/// Values of one or several kinds, each of which has an id. They are read under an id that was read
+/// before them, and written after it.
+///
+/// ```text
+/// type Kinds = Either<Kind<Be<u16>, 1>, Kind<(), 2>>;         // these are kinds of values
+/// ```
+pub trait Kinds: KindIds + Drop {
     // Whether the values may be read, and written, and that no byte is fetched too early.
     ghost readable: { Type 0 };
 
@@ -49,15 +52,15 @@ pub trait Kinds: Drop {
 
     /// Whether the id chooses a value of these kinds.
     fn knows(id: u64) -> bool
-        ensures { result ≡ knows id };
+        ensures { result ≡ Self.KindIds.knows id };
 
     /// Returns the id of the value.
     fn id(&self) -> u64
-        ensures { result ≡ id_of self.now };
+        ensures { result ≡ Self.KindIds.id_of self.now };
 
     /// Whether the id of the value chooses its kind. It does not if a kind before it has the id.
     fn is_own(&self) -> bool
-        ensures { result ≡ own self.now };
+        ensures { result ≡ Self.KindIds.own self.now };
 
     /// Reads a value under an id. If no kind has the id, it fails with `IdVariantNotFound`, and
     /// nothing moves. Otherwise it fails as the value does.
@@ -78,32 +81,46 @@ pub trait Kinds: Drop {
         ensures { Writes W.known (writes self.now) writer.old result writer.new };
 }
 
-/// Kinds whose values are read as they are written: the law of `Symmetric`, for the values whose id
-/// is this one.
-pub trait KindsLaw: Kinds {
+/// The law of kinds: that of `Part`, for the values whose id is this one.
+pub trait KindsLaw: KindIds {
     // The pieces of a value, without its id; and when two values are the same.
     ghost pieces: { Self → List Piece → Type 0 };
 
     ghost same: { Self → Self → Type 0 };
 
+    // What reading under an id, and writing, return and leave.
+    ghost reads: { ℕ → Meaning (Option Stream) Self };
+
+    ghost writes: { Self → Meaning Output (Unit {0}) };
+
     // The id of a value is one of those that choose these kinds.
-    ghost known: { (v : Self) → Self.Kinds.own v ≡ true
-        → Self.Kinds.knows (Self.Kinds.id_of v) ≡ true };
+    ghost known: { (v : Self) → Self.KindIds.own v ≡ true
+        → Self.KindIds.knows (Self.KindIds.id_of v) ≡ true };
 
     // The law.
-    ghost symmetric: { (id : ℕ) → IsSymmetric
-        (UnderOwn Self.Kinds.id_of Self.Kinds.own pieces id) same Self.Kinds.writes
-        (Self.Kinds.reads id) };
+    ghost law: { (id : ℕ) → IsSymmetric
+        (UnderOwn Self.KindIds.id_of Self.KindIds.own pieces id) same writes (reads id) };
 }
 
-/// A value under its id only.
-impl<A: DekuReader<()> + DekuWriter<()>, const ID: u64> Kinds for Kind<A, ID> {
+/// Kinds whose values are read as they are written: their law holds for how `Kinds` reads and
+/// writes them.
+pub trait SymmetricKinds: Kinds + KindsLaw {
+    // The law, for this reading and writing.
+    ghost symmetric: { (id : ℕ) → IsSymmetric
+        (UnderOwn Self.KindIds.id_of Self.KindIds.own Self.KindsLaw.pieces id) Self.KindsLaw.same
+        Self.Kinds.writes (Self.Kinds.reads id) };
+}
+
+impl<A, const ID: u64> KindIds for Kind<A, ID> {
     ghost knows = { λ id. nat_eq id ID };
 
     ghost id_of = { λ _. ID };
 
     ghost own = { λ _. true };
+}
 
+/// A value under its id only.
+impl<A: DekuReader<()> + DekuWriter<()>, const ID: u64> Kinds for Kind<A, ID> {
     ghost readable = { A.DekuReader.accepts tt };
 
     ghost writable = { A.DekuWriter.accepts tt };
@@ -143,26 +160,37 @@ impl<A: DekuReader<()> + DekuWriter<()>, const ID: u64> Kinds for Kind<A, ID> {
 }
 
 /// The pieces of the value.
-impl<A: Symmetric<()>, const ID: u64> KindsLaw for Kind<A, ID> {
+impl<A: Part<()>, const ID: u64> KindsLaw for Kind<A, ID> {
     ghost pieces = { λ v. A.pieces v.0 tt };
 
     ghost same = { λ v w. A.same v.0 w.0 };
 
+    ghost reads = { λ id. IfKnown (nat_eq id ID) (Mapped (λ a. record { 0 = a }) (A.reads tt)) };
+
+    ghost writes = { λ v. A.writes v.0 tt };
+
     ghost known = { λ v own. one_knows ID };
 
+    ghost law = { λ id. one_symmetric (λ a. record { 0 = a }) (λ v. v.0) (λ a. refl) ID id
+        (A.law tt) };
+}
+
+impl<A: Symmetric<()>, const ID: u64> SymmetricKinds for Kind<A, ID> {
     ghost symmetric = { λ id. one_symmetric (λ a. record { 0 = a }) (λ v. v.0) (λ a. refl) ID id
         (A.symmetric tt) };
 }
 
-/// A value under the id that it keeps, if that is in the range.
-impl<A: DekuReader<()> + DekuWriter<()>, const LOW: u64, const HIGH: u64> Kinds
-    for InRange<A, LOW, HIGH> {
+impl<A, const LOW: u64, const HIGH: u64> KindIds for InRange<A, LOW, HIGH> {
     ghost knows = { in_range LOW HIGH };
 
     ghost id_of = { λ v. v.id };
 
     ghost own = { λ v. in_range LOW HIGH v.id };
+}
 
+/// A value under the id that it keeps, if that is in the range.
+impl<A: DekuReader<()> + DekuWriter<()>, const LOW: u64, const HIGH: u64> Kinds
+    for InRange<A, LOW, HIGH> {
     ghost readable = { A.DekuReader.accepts tt };
 
     ghost writable = { A.DekuWriter.accepts tt };
@@ -202,34 +230,46 @@ impl<A: DekuReader<()> + DekuWriter<()>, const LOW: u64, const HIGH: u64> Kinds
 }
 
 /// The pieces of the value.
-impl<A: Symmetric<()>, const LOW: u64, const HIGH: u64> KindsLaw for InRange<A, LOW, HIGH> {
+impl<A: Part<()>, const LOW: u64, const HIGH: u64> KindsLaw for InRange<A, LOW, HIGH> {
     ghost pieces = { λ v. A.pieces v.value tt };
 
     ghost same = { λ v w. (v.id ≡ w.id) × A.same v.value w.value };
 
+    ghost reads = { λ id. IfKnown (in_range LOW HIGH id)
+        (Mapped (λ a. record { id = id; value = a }) (A.reads tt)) };
+
+    ghost writes = { λ v. A.writes v.value tt };
+
     ghost known = { λ v own. own };
 
+    ghost law = { λ id. range_symmetric (λ i a. record { id = i; value = a }) (λ v. v.id)
+        (λ v. v.value) (λ i a. refl) (λ i a. refl) LOW HIGH id (A.law tt) };
+}
+
+impl<A: Symmetric<()>, const LOW: u64, const HIGH: u64> SymmetricKinds for InRange<A, LOW, HIGH> {
     ghost symmetric = { λ id. range_symmetric (λ i a. record { id = i; value = a }) (λ v. v.id)
         (λ v. v.value) (λ i a. refl) (λ i a. refl) LOW HIGH id (A.symmetric tt) };
 }
 
-/// A value of the first kinds that its id chooses.
-impl<A: Kinds, B: Kinds> Kinds for Either<A, B> {
+impl<A: KindIds, B: KindIds> KindIds for Either<A, B> {
     ghost knows = { λ id. A.knows id || B.knows id };
 
     ghost id_of = { id_of_either A.id_of B.id_of };
 
     ghost own = { is_own A.knows A.own B.own B.id_of };
+}
 
+/// A value of the first kinds that its id chooses.
+impl<A: Kinds, B: Kinds> Kinds for Either<A, B> {
     ghost readable = { A.readable × B.readable };
 
     ghost writable = { A.writable × B.writable };
 
     ghost no_read_ahead = { A.no_read_ahead × B.no_read_ahead };
 
-    ghost reads = { λ id. ReadsEither (A.knows id) (A.reads id) (B.reads id) };
+    ghost reads = { λ id. ReadsEither (A.KindIds.knows id) (A.Kinds.reads id) (B.Kinds.reads id) };
 
-    ghost writes = { WritesEither A.writes B.writes };
+    ghost writes = { WritesEither A.Kinds.writes B.Kinds.writes };
 
     fn knows(id: u64) -> bool {
         A::knows(id) || B::knows(id)
@@ -274,9 +314,18 @@ impl<A: KindsLaw, B: KindsLaw> KindsLaw for Either<A, B> {
 
     ghost same = { SameEither A.same B.same };
 
-    ghost known = { either_knows A.Kinds.knows B.Kinds.knows A.Kinds.id_of B.Kinds.id_of A.Kinds.own
-        B.Kinds.own A.known B.known };
+    ghost reads = { λ id. ReadsEither (A.KindIds.knows id) (A.reads id) (B.reads id) };
 
-    ghost symmetric = { λ id. either_symmetric A.Kinds.knows A.Kinds.id_of B.Kinds.id_of A.Kinds.own
-        B.Kinds.own id A.known (A.symmetric id) (B.symmetric id) };
+    ghost writes = { WritesEither A.writes B.writes };
+
+    ghost known = { either_knows A.KindIds.knows B.KindIds.knows A.KindIds.id_of B.KindIds.id_of
+        A.KindIds.own B.KindIds.own A.known B.known };
+
+    ghost law = { λ id. either_symmetric A.KindIds.knows A.KindIds.id_of B.KindIds.id_of
+        A.KindIds.own B.KindIds.own id A.known (A.law id) (B.law id) };
+}
+
+impl<A: SymmetricKinds, B: SymmetricKinds> SymmetricKinds for Either<A, B> {
+    ghost symmetric = { λ id. either_symmetric A.KindIds.knows A.KindIds.id_of B.KindIds.id_of
+        A.KindIds.own B.KindIds.own id A.known (A.symmetric id) (B.symmetric id) };
 }

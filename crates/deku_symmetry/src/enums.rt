@@ -6,9 +6,9 @@ ghost use Rattle.deku_bits.specs.WriterCalls.{Writes};
 ghost use Rattle.deku_pieces.specs.Ids.{OfEnum, ReadsEnum, WritesEnum};
 ghost use Rattle.deku_pieces.proofs.Ids.{enum_symmetric};
 
-use crate::either::{Kinds, KindsLaw};
+use crate::either::{Kinds, KindsLaw, SymmetricKinds};
 use crate::fields::{Lsb, LsbBe, Msb, MsbLe};
-use crate::traits::Symmetric;
+use crate::traits::{Part, Symmetric};
 use deku::device::{Sink, Source};
 use deku::reader::Reader;
 use deku::writer::Writer;
@@ -20,7 +20,7 @@ use std::marker::PhantomData;
 /// ```text
 /// <Msb<u64, 16> as Id>::of_number(0x0800)                     // two bytes, 08 00
 /// ```
-pub trait Id: Symmetric<()> {
+pub trait Id: Part<()> + Drop {
     // The number, and the part of a number.
     ghost number_of: { Self → ℕ };
 
@@ -41,7 +41,7 @@ pub trait Id: Symmetric<()> {
 
     ghost again: { (v : Self) → part_of (number_of v) ≡ v };
 
-    ghost alike: { (v w : Self) → Self.Symmetric.same v w → v ≡ w };
+    ghost alike: { (v w : Self) → Self.Part.same v w → v ≡ w };
 }
 
 impl<const N: usize> Id for Msb<u64, N> {
@@ -171,7 +171,7 @@ impl<I, K> Enum<I, K> {
     }
 }
 
-impl<I: Id, K: Kinds> DekuReader<()> for Enum<I, K> {
+impl<I: Id + DekuReader<()>, K: Kinds> DekuReader<()> for Enum<I, K> {
     ghost accepts = { λ _. I.DekuReader.accepts tt × K.readable };
 
     ghost no_read_ahead = { λ _. I.DekuReader.no_read_ahead tt × K.no_read_ahead };
@@ -187,7 +187,7 @@ impl<I: Id, K: Kinds> DekuReader<()> for Enum<I, K> {
     }
 }
 
-impl<I: Id, K: Kinds> DekuWriter<()> for Enum<I, K> {
+impl<I: Id + DekuWriter<()>, K: Kinds> DekuWriter<()> for Enum<I, K> {
     ghost accepts = { λ _. I.DekuWriter.accepts tt × K.writable };
 
     ghost meaning = { λ v _. WritesEnum (λ n. I.DekuWriter.meaning (I.Id.part_of n) tt) K.id_of
@@ -218,7 +218,7 @@ impl<I: Id, K: Kinds> DekuWriter<()> for Enum<I, K> {
 /// write_kind(&id, &bytes, writer)                             // 07, and then the bytes
 /// ```
 #[inline(always)]
-pub fn write_kind<I: Id, K: Kinds, A: DekuWriter<()>, W: Sink>(
+pub fn write_kind<I: Id + DekuWriter<()>, K: Kinds, A: DekuWriter<()>, W: Sink>(
     id: &Enum<I, K>,
     parts: &A,
     writer: &mut Writer<W>,
@@ -237,13 +237,25 @@ pub fn write_kind<I: Id, K: Kinds, A: DekuWriter<()>, W: Sink>(
 }
 
 /// The pieces of the id, and then those of the value that it chooses.
-impl<I: Id, K: KindsLaw> Symmetric<()> for Enum<I, K> {
-    ghost pieces = { λ v _. OfEnum (λ n. I.Symmetric.pieces (I.Id.part_of n) tt) K.Kinds.id_of
-        K.Kinds.own K.pieces v.kind };
+impl<I: Id, K: KindsLaw> Part<()> for Enum<I, K> {
+    ghost pieces = { λ v _. OfEnum (λ n. I.Part.pieces (I.Id.part_of n) tt) K.KindIds.id_of
+        K.KindIds.own K.pieces v.kind };
 
     ghost same = { λ v w. K.same v.kind w.kind };
 
-    ghost symmetric = { λ _. enum_symmetric (λ k. record { kind = k; id = record {} })
-        (λ v. v.kind) (λ k. refl) I.Id.number_of I.Id.part_of I.Id.round I.Id.again I.Id.alike
-        K.Kinds.id_of K.Kinds.own K.pieces (I.Symmetric.symmetric tt) K.symmetric };
+    ghost reads = { λ _. ReadsEnum (λ k. record { kind = k; id = record {} }) I.Id.number_of
+        (I.Part.reads tt) K.reads };
+
+    ghost writes = { λ v _. WritesEnum (λ n. I.Part.writes (I.Id.part_of n) tt) K.KindIds.id_of
+        K.KindIds.own K.writes v.kind };
+
+    ghost law = { λ _. enum_symmetric (λ k. record { kind = k; id = record {} }) (λ v. v.kind)
+        (λ k. refl) I.Id.number_of I.Id.part_of I.Id.round I.Id.again I.Id.alike K.KindIds.id_of
+        K.KindIds.own K.pieces (I.Part.law tt) K.law };
+}
+
+impl<I: Id + Symmetric<()>, K: SymmetricKinds> Symmetric<()> for Enum<I, K> {
+    ghost symmetric = { λ _. enum_symmetric (λ k. record { kind = k; id = record {} }) (λ v. v.kind)
+        (λ k. refl) I.Id.number_of I.Id.part_of I.Id.round I.Id.again I.Id.alike K.KindIds.id_of
+        K.KindIds.own K.KindsLaw.pieces (I.Symmetric.symmetric tt) K.symmetric };
 }

@@ -6,7 +6,7 @@ ghost use Rattle.deku_num.specs.declared.ctx.Endian.TheVariants.{Big, Little};
 ghost use Rattle.deku_pieces.proofs.Turned.{mapped_symmetric};
 ghost use Rattle.deku_bits.specs.declared.ctx.Order.TheVariants.{Lsb0};
 
-use crate::traits::Symmetric;
+use crate::traits::{Part, Symmetric};
 use deku::ctx::{BitSize, Endian, Order};
 use deku::device::{Sink, Source};
 use deku::reader::Reader;
@@ -62,11 +62,20 @@ impl<T: DekuWriter<(Endian, BitSize)>, const N: usize> DekuWriter<()> for Msb<T,
 }
 
 /// The pieces of the number.
-impl<T: Symmetric<(Endian, BitSize)>, const N: usize> Symmetric<()> for Msb<T, N> {
+impl<T: Part<(Endian, BitSize)>, const N: usize> Part<()> for Msb<T, N> {
     ghost pieces = { λ v _. T.pieces v.0 (Big, record { 0 = N }) };
 
     ghost same = { λ v w. T.same v.0 w.0 };
 
+    ghost reads = { λ _. Mapped (λ v. record { 0 = v }) (T.reads (Big, record { 0 = N })) };
+
+    ghost writes = { λ v _. T.writes v.0 (Big, record { 0 = N }) };
+
+    ghost law = { λ _. mapped_symmetric (λ v. record { 0 = v }) (λ v. v.0) _ _ _ _ (λ v. refl)
+        (T.law (Big, record { 0 = N })) };
+}
+
+impl<T: Symmetric<(Endian, BitSize)>, const N: usize> Symmetric<()> for Msb<T, N> {
     ghost symmetric = { λ _. mapped_symmetric (λ v. record { 0 = v }) (λ v. v.0) _ _ _ _ (λ v. refl)
         (T.symmetric (Big, record { 0 = N })) };
 }
@@ -128,11 +137,21 @@ impl<T: DekuWriter<(Endian, BitSize, Order)>, const N: usize> DekuWriter<()> for
 }
 
 /// The pieces of the number.
-impl<T: Symmetric<(Endian, BitSize, Order)>, const N: usize> Symmetric<()> for Lsb<T, N> {
+impl<T: Part<(Endian, BitSize, Order)>, const N: usize> Part<()> for Lsb<T, N> {
     ghost pieces = { λ v _. T.pieces v.0 (Little, record { 0 = N }, Lsb0) };
 
     ghost same = { λ v w. T.same v.0 w.0 };
 
+    ghost reads = { λ _. Mapped (λ v. record { 0 = v })
+        (T.reads (Little, record { 0 = N }, Lsb0)) };
+
+    ghost writes = { λ v _. T.writes v.0 (Little, record { 0 = N }, Lsb0) };
+
+    ghost law = { λ _. mapped_symmetric (λ v. record { 0 = v }) (λ v. v.0) _ _ _ _ (λ v. refl)
+        (T.law (Little, record { 0 = N }, Lsb0)) };
+}
+
+impl<T: Symmetric<(Endian, BitSize, Order)>, const N: usize> Symmetric<()> for Lsb<T, N> {
     ghost symmetric = { λ _. mapped_symmetric (λ v. record { 0 = v }) (λ v. v.0) _ _ _ _ (λ v. refl)
         (T.symmetric (Little, record { 0 = N }, Lsb0)) };
 }
@@ -186,11 +205,20 @@ impl<T: DekuWriter<(Endian, BitSize)>, const N: usize> DekuWriter<()> for MsbLe<
 }
 
 /// The pieces of the number.
-impl<T: Symmetric<(Endian, BitSize)>, const N: usize> Symmetric<()> for MsbLe<T, N> {
+impl<T: Part<(Endian, BitSize)>, const N: usize> Part<()> for MsbLe<T, N> {
     ghost pieces = { λ v _. T.pieces v.0 (Little, record { 0 = N }) };
 
     ghost same = { λ v w. T.same v.0 w.0 };
 
+    ghost reads = { λ _. Mapped (λ v. record { 0 = v }) (T.reads (Little, record { 0 = N })) };
+
+    ghost writes = { λ v _. T.writes v.0 (Little, record { 0 = N }) };
+
+    ghost law = { λ _. mapped_symmetric (λ v. record { 0 = v }) (λ v. v.0) _ _ _ _ (λ v. refl)
+        (T.law (Little, record { 0 = N })) };
+}
+
+impl<T: Symmetric<(Endian, BitSize)>, const N: usize> Symmetric<()> for MsbLe<T, N> {
     ghost symmetric = { λ _. mapped_symmetric (λ v. record { 0 = v }) (λ v. v.0) _ _ _ _ (λ v. refl)
         (T.symmetric (Little, record { 0 = N })) };
 }
@@ -253,11 +281,20 @@ impl<T: DekuWriter<(Endian, BitSize, Order)>, const N: usize> DekuWriter<()> for
 }
 
 /// The pieces of the number.
-impl<T: Symmetric<(Endian, BitSize, Order)>, const N: usize> Symmetric<()> for LsbBe<T, N> {
+impl<T: Part<(Endian, BitSize, Order)>, const N: usize> Part<()> for LsbBe<T, N> {
     ghost pieces = { λ v _. T.pieces v.0 (Big, record { 0 = N }, Lsb0) };
 
     ghost same = { λ v w. T.same v.0 w.0 };
 
+    ghost reads = { λ _. Mapped (λ v. record { 0 = v }) (T.reads (Big, record { 0 = N }, Lsb0)) };
+
+    ghost writes = { λ v _. T.writes v.0 (Big, record { 0 = N }, Lsb0) };
+
+    ghost law = { λ _. mapped_symmetric (λ v. record { 0 = v }) (λ v. v.0) _ _ _ _ (λ v. refl)
+        (T.law (Big, record { 0 = N }, Lsb0)) };
+}
+
+impl<T: Symmetric<(Endian, BitSize, Order)>, const N: usize> Symmetric<()> for LsbBe<T, N> {
     ghost symmetric = { λ _. mapped_symmetric (λ v. record { 0 = v }) (λ v. v.0) _ _ _ _ (λ v. refl)
         (T.symmetric (Big, record { 0 = N }, Lsb0)) };
 }
@@ -310,11 +347,20 @@ impl<T: DekuWriter<Endian>> DekuWriter<()> for Be<T> {
 }
 
 /// The pieces of the number.
-impl<T: Symmetric<Endian>> Symmetric<()> for Be<T> {
+impl<T: Part<Endian>> Part<()> for Be<T> {
     ghost pieces = { λ v _. T.pieces v.0 Big };
 
     ghost same = { λ v w. T.same v.0 w.0 };
 
+    ghost reads = { λ _. Mapped (λ v. record { 0 = v }) (T.reads Big) };
+
+    ghost writes = { λ v _. T.writes v.0 Big };
+
+    ghost law = { λ _. mapped_symmetric (λ v. record { 0 = v }) (λ v. v.0) _ _ _ _ (λ v. refl)
+        (T.law Big) };
+}
+
+impl<T: Symmetric<Endian>> Symmetric<()> for Be<T> {
     ghost symmetric = { λ _. mapped_symmetric (λ v. record { 0 = v }) (λ v. v.0) _ _ _ _ (λ v. refl)
         (T.symmetric Big) };
 }
@@ -367,11 +413,20 @@ impl<T: DekuWriter<Endian>> DekuWriter<()> for Le<T> {
 }
 
 /// The pieces of the number.
-impl<T: Symmetric<Endian>> Symmetric<()> for Le<T> {
+impl<T: Part<Endian>> Part<()> for Le<T> {
     ghost pieces = { λ v _. T.pieces v.0 Little };
 
     ghost same = { λ v w. T.same v.0 w.0 };
 
+    ghost reads = { λ _. Mapped (λ v. record { 0 = v }) (T.reads Little) };
+
+    ghost writes = { λ v _. T.writes v.0 Little };
+
+    ghost law = { λ _. mapped_symmetric (λ v. record { 0 = v }) (λ v. v.0) _ _ _ _ (λ v. refl)
+        (T.law Little) };
+}
+
+impl<T: Symmetric<Endian>> Symmetric<()> for Le<T> {
     ghost symmetric = { λ _. mapped_symmetric (λ v. record { 0 = v }) (λ v. v.0) _ _ _ _ (λ v. refl)
         (T.symmetric Little) };
 }

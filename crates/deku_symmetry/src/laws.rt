@@ -13,7 +13,7 @@ use deku::ctx::{Limit, Never};
 /// `to_bytes` of a value with aligned pieces, whose bits can be counted, gives what the pieces lay
 /// out. The only other result is that memory runs out.
 pub fn to_bytes_law<T: Symmetric<()>>()
-    ensures { ToBytesLaw (λ v. T.pieces v tt) (λ v. T.DekuWriter.meaning v tt) }
+    ensures { ToBytesLaw (λ v. T.Part.pieces v tt) (λ v. T.DekuWriter.meaning v tt) }
 {}
 
 /// `from_bytes`, at bit 0, reads a value back from bytes that begin with what its aligned pieces
@@ -21,8 +21,8 @@ pub fn to_bytes_law<T: Symmetric<()>>()
 /// only other result is that memory runs out. Every value that it returns has pieces that were
 /// taken from the bytes, one after the other.
 pub fn from_bytes_law<T: Symmetric<()>>()
-    ensures back { FromBytesLaw (λ v. T.pieces v tt) T.same (T.DekuReader.meaning tt) }
-    ensures found { FoundLaw (λ v. T.pieces v tt) (T.DekuReader.meaning tt) }
+    ensures back { FromBytesLaw (λ v. T.Part.pieces v tt) T.Part.same (T.DekuReader.meaning tt) }
+    ensures found { FoundLaw (λ v. T.Part.pieces v tt) (T.DekuReader.meaning tt) }
 {}
 
 /// Aligned pieces of whole bytes, taken one after the other from the first byte on, lay out these
@@ -41,12 +41,13 @@ pub fn whole_bytes_law()
 /// The clauses `items`, `there` and `back` are about the list of items, which maps and sets are
 /// made of too. The clause `vector` is about `read_whole` of a vector.
 pub fn counted_law<Ctx: Copy, T: Symmetric<Ctx>>()
-    ensures items { (c : Ctx) → CountedLaw (λ x. T.pieces x c) T.same
+    ensures items { (c : Ctx) → CountedLaw (λ x. T.Part.pieces x c) T.Part.same
         (λ x. T.DekuWriter.meaning x c) (T.DekuReader.meaning c) }
-    ensures there { (c : Ctx) → EachToBytesLaw (λ x. T.pieces x c) (λ x. T.DekuWriter.meaning x c) }
-    ensures back { (c : Ctx) → CountedUnpackLaw (λ x. T.pieces x c) T.same
+    ensures there { (c : Ctx) → EachToBytesLaw (λ x. T.Part.pieces x c)
+        (λ x. T.DekuWriter.meaning x c) }
+    ensures back { (c : Ctx) → CountedUnpackLaw (λ x. T.Part.pieces x c) T.Part.same
         (T.DekuReader.meaning c) }
-    ensures vector { (c : Ctx) (n : ℕ) → UnpackLaw (λ v. OfTimes n (λ x. T.pieces x c) v.items)
-        (λ v w. SameEach T.same v.items w.items)
+    ensures vector { (c : Ctx) (n : ℕ) → UnpackLaw (λ v. OfTimes n (λ x. T.Part.pieces x c) v.items)
+        (λ v w. SameEach T.Part.same v.items w.items)
         (⟦<Vec<T> as DekuReader<(Limit<T, Never>, Ctx)>>⟧.meaning (Count n, c)) }
 {}

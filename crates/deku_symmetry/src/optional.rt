@@ -8,7 +8,7 @@ ghost use Rattle.deku_pieces.specs.Pieces.{SameHeld};
 ghost use Rattle.deku_pieces.specs.Whether.{OfShown, ReadsWhether, ReadsShown, WritesShown};
 ghost use Rattle.deku_pieces.proofs.Whether.{shown_item_symmetric};
 
-use crate::traits::Symmetric;
+use crate::traits::{Part, Symmetric};
 use deku::device::{Sink, Source};
 use deku::reader::Reader;
 use deku::writer::Writer;
@@ -42,9 +42,9 @@ pub trait Condition<P>: Drop {
 ///     ghost alike = { λ v w e. e.0 };
 /// }
 /// ```
-pub trait ConditionLaw<P: Symmetric<()>>: Condition<P> {
+pub trait ConditionLaw<P: Part<()>>: Condition<P> {
     // Heads that are the same show the same.
-    ghost alike: { (v w : P) → P.Symmetric.same v w
+    ghost alike: { (v w : P) → P.same v w
         → Self.Condition.shows v ≡ Self.Condition.shows w };
 }
 
@@ -164,12 +164,25 @@ fn in_step<P, C: Condition<P>, T>(head: &P, item: &Option<T>) -> bool
 
 /// The pieces of the head, and then those of its item. There are no pieces if the item is out of
 /// step with its head.
-impl<P: Symmetric<()>, C: ConditionLaw<P>, T: Symmetric<()>> Symmetric<()> for Optional<P, C, T> {
+impl<P: Part<()>, C: ConditionLaw<P>, T: Part<()>> Part<()> for Optional<P, C, T> {
     ghost pieces = { λ v _. OfShown C.Condition.shows (λ h. P.pieces h tt) (λ x. T.pieces x tt)
         v.head v.item };
 
     ghost same = { λ v w. P.same v.head w.head × SameHeld T.same v.item w.item };
 
+    ghost reads = { λ _. ReadsShown (λ h x. record { head = h; item = x; condition = record {} })
+        C.Condition.shows (P.reads tt) (T.reads tt) };
+
+    ghost writes = { λ v _. WritesShown C.Condition.shows (λ h. P.writes h tt)
+        (λ x. T.writes x tt) v.head v.item };
+
+    ghost law = { λ _. shown_item_symmetric
+        (λ h x. record { head = h; item = x; condition = record {} })
+        (λ v. v.head) (λ v. v.item) (λ h x. refl) (λ h x. refl) C.Condition.shows
+        C.ConditionLaw.alike (P.law tt) (T.law tt) };
+}
+
+impl<P: Symmetric<()>, C: ConditionLaw<P>, T: Symmetric<()>> Symmetric<()> for Optional<P, C, T> {
     ghost symmetric = { λ _. shown_item_symmetric
         (λ h x. record { head = h; item = x; condition = record {} })
         (λ v. v.head) (λ v. v.item) (λ h x. refl) (λ h x. refl) C.Condition.shows

@@ -8,7 +8,7 @@ ghost use Rattle.deku_pieces.specs.Leading.{ReadsPrefixed};
 ghost use Rattle.deku_pieces.proofs.Prefixed.{prefixed_symmetric};
 
 use crate::enums::Id;
-use crate::traits::Symmetric;
+use crate::traits::{Part, Symmetric};
 use deku::ctx::Limit;
 use deku::device::{Sink, Source};
 use deku::reader::Reader;
@@ -50,7 +50,7 @@ impl<I, T> Prefixed<I, T> {
     }
 }
 
-impl<I: Id, T: DekuReader<()>> DekuReader<()> for Prefixed<I, T> {
+impl<I: Id + DekuReader<()>, T: DekuReader<()>> DekuReader<()> for Prefixed<I, T> {
     ghost accepts = { λ _. I.DekuReader.accepts tt × T.accepts tt };
 
     ghost no_read_ahead = { λ _. I.DekuReader.no_read_ahead tt × T.no_read_ahead tt };
@@ -67,7 +67,7 @@ impl<I: Id, T: DekuReader<()>> DekuReader<()> for Prefixed<I, T> {
     }
 }
 
-impl<I: Id, T: DekuWriter<()>> DekuWriter<()> for Prefixed<I, T> {
+impl<I: Id + DekuWriter<()>, T: DekuWriter<()>> DekuWriter<()> for Prefixed<I, T> {
     ghost accepts = { λ _. I.DekuWriter.accepts tt × T.accepts tt };
 
     ghost meaning = { λ v _. Both
@@ -82,7 +82,7 @@ impl<I: Id, T: DekuWriter<()>> DekuWriter<()> for Prefixed<I, T> {
 
 // Writes the count of the items, and then the items.
 #[inline(always)]
-fn write_prefixed<I: Id, T: DekuWriter<()>, W: Sink>(
+fn write_prefixed<I: Id + DekuWriter<()>, T: DekuWriter<()>, W: Sink>(
     items: &Vec<T>,
     writer: &mut Writer<W>,
 ) -> Result<(), DekuError>
@@ -96,17 +96,29 @@ fn write_prefixed<I: Id, T: DekuWriter<()>, W: Sink>(
     items.to_writer(writer, ())
 }
 
-impl<I: Id, T: DekuReader<()>> DekuContainerRead for Prefixed<I, T> {}
+impl<I: Id + DekuReader<()>, T: DekuReader<()>> DekuContainerRead for Prefixed<I, T> {}
 
-impl<I: Id, T: DekuWriter<()>> DekuContainerWrite for Prefixed<I, T> {}
+impl<I: Id + DekuWriter<()>, T: DekuWriter<()>> DekuContainerWrite for Prefixed<I, T> {}
 
 /// The pieces of the count of the items, and then those of the items.
-impl<I: Id, T: Symmetric<()>> Symmetric<()> for Prefixed<I, T> {
-    ghost pieces = { λ v _. InTurn (I.Symmetric.pieces (I.Id.part_of (length v.items.items)) tt)
+impl<I: Id, T: Part<()>> Part<()> for Prefixed<I, T> {
+    ghost pieces = { λ v _. InTurn (I.Part.pieces (I.Id.part_of (length v.items.items)) tt)
         (OfEach (λ x. T.pieces x tt) v.items.items) };
 
     ghost same = { λ v w. SameEach T.same v.items.items w.items.items };
 
+    ghost reads = { λ _. ReadsPrefixed (λ xs. record { items = xs; count = record {} })
+        I.Id.number_of (I.Part.reads tt) (T.reads tt) };
+
+    ghost writes = { λ v _. Both (I.Part.writes (I.Id.part_of (length v.items.items)) tt)
+        (WritesEach (λ x. T.writes x tt) v.items.items) };
+
+    ghost law = { λ _. prefixed_symmetric (λ xs. record { items = xs; count = record {} })
+        (λ v. v.items) (λ xs. refl) I.Id.number_of I.Id.part_of I.Id.round I.Id.again I.Id.alike
+        (I.Part.law tt) (T.law tt) };
+}
+
+impl<I: Id + Symmetric<()>, T: Symmetric<()>> Symmetric<()> for Prefixed<I, T> {
     ghost symmetric = { λ _. prefixed_symmetric (λ xs. record { items = xs; count = record {} })
         (λ v. v.items) (λ xs. refl) I.Id.number_of I.Id.part_of I.Id.round I.Id.again I.Id.alike
         (I.Symmetric.symmetric tt) (T.symmetric tt) };
@@ -129,7 +141,7 @@ pub struct PrefixedRef<'a, I, T> {
     pub count: PhantomData<I>,
 }
 
-impl<'a, I: Id, T: DekuWriter<()>> DekuWriter<()> for PrefixedRef<'a, I, T> {
+impl<'a, I: Id + DekuWriter<()>, T: DekuWriter<()>> DekuWriter<()> for PrefixedRef<'a, I, T> {
     ghost accepts = { λ _. I.DekuWriter.accepts tt × T.accepts tt };
 
     ghost meaning = { λ v _. Both

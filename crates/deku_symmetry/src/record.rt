@@ -11,8 +11,8 @@ ghost use Rattle.deku.specs.Early.{NoReadAhead};
 ghost use Rattle.deku.specs.Shapes.{Shows};
 ghost use Rattle.deku_pieces.proofs.Turned.{record_symmetric, record_last};
 
-use crate::last::SymmetricLast;
-use crate::traits::Symmetric;
+use crate::last::{PartLast, SymmetricLast};
+use crate::traits::{Part, Symmetric};
 use deku::ctx::Endian;
 use deku::device::{Sink, Source};
 use deku::reader::Reader;
@@ -59,30 +59,61 @@ pub trait ToParts: FromParts {
 }
 
 /// A record that is read and written as its parts, under this context. If that is `()` or `Endian`,
-/// and its parts are `Symmetric`, so is the record. The page `docs/RECORDS.md` shows one.
+/// it is `Symmetric`. The page `docs/RECORDS.md` shows one.
 ///
 /// ```text
 /// impl Record<()> for Sample {
+///     type Layout = SampleParts;
+///
 ///     ghost reads = { λ c b s r u m. m };
 ///
 ///     ghost writes = { λ c v b s r u m. m };
 /// }
 /// ```
-pub trait Record<Ctx>: FromParts + DekuReader<Ctx> + DekuWriter<Ctx>
-where
-    Self::Parts: DekuReader<Ctx> + DekuWriter<Ctx>,
-{
+pub trait Record<Ctx>: FromParts<Parts = Self::Layout> + DekuReader<Ctx> + DekuWriter<Ctx> {
+    /// The parts once more, with their law.
+    type Layout: Part<Ctx>;
+
     // Nothing is read except the parts.
     ghost reads: { (c : Ctx) (b : Bool) (s : Standing (Option Stream)) (r : Result Self Refusal)
         (u : Standing (Option Stream))
         → Self.DekuReader.meaning c b s r u
-        → Then (Self.Parts.DekuReader.meaning c) (Shows Self.parts_of) b s r u };
+        → Then (Self.Layout.reads c) (Shows Self.parts_of) b s r u };
 
     // Nothing is written except the parts.
     ghost writes: { (c : Ctx) (v : Self) (b : Bool) (s : Standing Output)
         (r : Result (Unit {0}) Refusal) (u : Standing Output)
         → Self.DekuWriter.meaning v c b s r u
-        → Self.Parts.DekuWriter.meaning (Self.parts_of v) c b s r u };
+        → Self.Layout.writes (Self.parts_of v) c b s r u };
+}
+
+/// A record that is read and written as its parts, the last of which is read up to the end of the
+/// input. It is `SymmetricLast`.
+///
+/// ```text
+/// impl RecordLast for Log {
+///     type Layout = LogParts;
+///
+///     ghost reads = { λ b s r u m. m };
+///
+///     ghost writes = { λ v b s r u m. m };
+/// }
+/// ```
+pub trait RecordLast: FromParts<Parts = Self::Layout> + DekuReader<()> + DekuWriter<()> {
+    /// The parts once more, with their law.
+    type Layout: PartLast;
+
+    // Nothing is read except the parts.
+    ghost reads: { (b : Bool) (s : Standing (Option Stream)) (r : Result Self Refusal)
+        (u : Standing (Option Stream))
+        → Self.DekuReader.meaning tt b s r u
+        → Then Self.Layout.reads (Shows Self.parts_of) b s r u };
+
+    // Nothing is written except the parts.
+    ghost writes: { (v : Self) (b : Bool) (s : Standing Output) (r : Result (Unit {0}) Refusal)
+        (u : Standing Output)
+        → Self.DekuWriter.meaning v tt b s r u
+        → Self.Layout.writes (Self.parts_of v) b s r u };
 }
 
 /// Reads the parts and makes the record of them: the body of a record's `from_reader_with_ctx`.
@@ -135,40 +166,57 @@ where
 }
 
 /// The pieces of the parts.
-impl<R: Record<()>> Symmetric<()> for R
-where
-    R::Parts: Symmetric<()>,
-{
-    ghost pieces = { λ v c. R.Parts.pieces (R.parts_of v) c };
+impl<R: Record<()>> Part<()> for R {
+    ghost pieces = { λ v c. R.Layout.pieces (R.parts_of v) c };
 
-    ghost same = { λ v w. R.Parts.same (R.parts_of v) (R.parts_of w) };
+    ghost same = { λ v w. R.Layout.same (R.parts_of v) (R.parts_of w) };
 
-    ghost symmetric = { λ c. record_symmetric R.parts_of (R.Parts.symmetric c) (R.writes c)
-        (R.reads c) };
+    ghost reads = { R.DekuReader.meaning };
+
+    ghost writes = { R.DekuWriter.meaning };
+
+    ghost law = { λ c. record_symmetric R.parts_of (R.Layout.law c) (R.Record.writes c)
+        (R.Record.reads c) };
+}
+
+impl<R: Record<()>> Symmetric<()> for R {
+    ghost symmetric = { λ c. record_symmetric R.parts_of (R.Layout.law c) (R.Record.writes c)
+        (R.Record.reads c) };
 }
 
 /// The pieces of the parts, under the endian.
-impl<R: Record<Endian>> Symmetric<Endian> for R
-where
-    R::Parts: Symmetric<Endian>,
-{
-    ghost pieces = { λ v c. R.Parts.pieces (R.parts_of v) c };
+impl<R: Record<Endian>> Part<Endian> for R {
+    ghost pieces = { λ v c. R.Layout.pieces (R.parts_of v) c };
 
-    ghost same = { λ v w. R.Parts.same (R.parts_of v) (R.parts_of w) };
+    ghost same = { λ v w. R.Layout.same (R.parts_of v) (R.parts_of w) };
 
-    ghost symmetric = { λ c. record_symmetric R.parts_of (R.Parts.symmetric c) (R.writes c)
-        (R.reads c) };
+    ghost reads = { R.DekuReader.meaning };
+
+    ghost writes = { R.DekuWriter.meaning };
+
+    ghost law = { λ c. record_symmetric R.parts_of (R.Layout.law c) (R.Record.writes c)
+        (R.Record.reads c) };
+}
+
+impl<R: Record<Endian>> Symmetric<Endian> for R {
+    ghost symmetric = { λ c. record_symmetric R.parts_of (R.Layout.law c) (R.Record.writes c)
+        (R.Record.reads c) };
 }
 
 /// The pieces of the parts, if nothing follows them.
-impl<R: Record<()>> SymmetricLast for R
-where
-    R::Parts: SymmetricLast,
-{
-    ghost pieces = { λ v. R.Parts.SymmetricLast.pieces (R.parts_of v) };
+impl<R: RecordLast> PartLast for R {
+    ghost pieces = { λ v. R.Layout.pieces (R.parts_of v) };
 
-    ghost same = { λ v w. R.Parts.SymmetricLast.same (R.parts_of v) (R.parts_of w) };
+    ghost same = { λ v w. R.Layout.same (R.parts_of v) (R.parts_of w) };
 
-    ghost symmetric = { record_last R.parts_of R.Parts.SymmetricLast.symmetric (R.writes tt)
-        (R.reads tt) };
+    ghost reads = { R.DekuReader.meaning tt };
+
+    ghost writes = { λ v. R.DekuWriter.meaning v tt };
+
+    ghost law = { record_last R.parts_of R.Layout.law R.RecordLast.writes R.RecordLast.reads };
+}
+
+impl<R: RecordLast> SymmetricLast for R {
+    ghost symmetric = { record_last R.parts_of R.Layout.law R.RecordLast.writes
+        R.RecordLast.reads };
 }

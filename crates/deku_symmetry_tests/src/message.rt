@@ -100,6 +100,8 @@ impl DekuWriter<()> for Message {
 }
 
 impl Record<()> for Message {
+    type Layout = MessageParts;
+
     ghost reads = { λ c b s r u m. m };
 
     ghost writes = { λ c v b s r u m. m };

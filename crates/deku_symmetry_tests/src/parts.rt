@@ -77,6 +77,8 @@ impl FromParts for Text {
 }
 
 impl Record<()> for Text {
+    type Layout = Counted<u8, u8>;
+
     ghost reads = { λ c b s r u m. m };
 
     ghost writes = { λ c v b s r u m. m };
@@ -147,6 +149,8 @@ impl ToParts for Pair {
 }
 
 impl Record<Endian> for Pair {
+    type Layout = PairParts;
+
     ghost reads = { λ c b s r u m. m };
 
     ghost writes = { λ c v b s r u m. m };

@@ -52,6 +52,8 @@ impl ToParts for Sample {
 }
 
 impl Record<()> for Sample {
+    type Layout = Parts;
+
     ghost reads = { λ c b s r u m. m };
 
     ghost writes = { λ c v b s r u m. m };

@@ -4,7 +4,7 @@ use deku_tokens::arena::Arena;
 use std::alloc::AllocError;
 
 // The names that a module imports or that its bounds have.
-const IMPORTED: [&str; 74] = [
+const IMPORTED: [&str; 75] = [
     "Source",
     "Sink",
     "DekuContainerRead",
@@ -18,6 +18,7 @@ const IMPORTED: [&str; 74] = [
     "FromParts",
     "ToParts",
     "Record",
+    "RecordLast",
     "Be",
     "Le",
     "Msb",

@@ -106,6 +106,8 @@ impl DekuWriter<()> for TcpOption {
 }
 
 impl Record<()> for TcpOption {
+    type Layout = TcpOptionParts;
+
     ghost reads = { λ c b s r u m. m };
 
     ghost writes = { λ c v b s r u m. m };
@@ -199,6 +201,8 @@ impl DekuWriter<()> for Tail {
 }
 
 impl Record<()> for Tail {
+    type Layout = TailParts;
+
     ghost reads = { λ c b s r u m. m };
 
     ghost writes = { λ c v b s r u m. m };
@@ -266,6 +270,8 @@ impl DekuWriter<()> for LargestSegment {
 }
 
 impl Record<()> for LargestSegment {
+    type Layout = LargestSegmentParts;
+
     ghost reads = { λ c b s r u m. m };
 
     ghost writes = { λ c v b s r u m. m };
@@ -333,6 +339,8 @@ impl DekuWriter<()> for WindowScale {
 }
 
 impl Record<()> for WindowScale {
+    type Layout = WindowScaleParts;
+
     ghost reads = { λ c b s r u m. m };
 
     ghost writes = { λ c v b s r u m. m };
@@ -402,6 +410,8 @@ impl DekuWriter<()> for Block {
 }
 
 impl Record<()> for Block {
+    type Layout = BlockParts;
+
     ghost reads = { λ c b s r u m. m };
 
     ghost writes = { λ c v b s r u m. m };
@@ -471,6 +481,8 @@ impl DekuWriter<()> for Times {
 }
 
 impl Record<()> for Times {
+    type Layout = TimesParts;
+
     ghost reads = { λ c b s r u m. m };
 
     ghost writes = { λ c v b s r u m. m };

@@ -279,6 +279,8 @@ impl DekuWriter<()> for Tcp {
 }
 
 impl Record<()> for Tcp {
+    type Layout = TcpParts;
+
     ghost reads = { λ c b s r u m. m };
 
     ghost writes = { λ c v b s r u m. m };

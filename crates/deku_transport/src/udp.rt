@@ -99,6 +99,8 @@ impl DekuWriter<()> for Udp {
 }
 
 impl Record<()> for Udp {
+    type Layout = UdpParts;
+
     ghost reads = { λ c b s r u m. m };
 
     ghost writes = { λ c v b s r u m. m };

@@ -98,6 +98,8 @@ impl DekuWriter<()> for Batch {
 }
 
 impl Record<()> for Batch {
+    type Layout = BatchParts;
+
     ghost reads = { λ c b s r u m. m };
 
     ghost writes = { λ c v b s r u m. m };

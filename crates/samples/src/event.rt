@@ -119,6 +119,8 @@ impl DekuWriter<()> for Event {
 }
 
 impl Record<()> for Event {
+    type Layout = EventParts;
+
     ghost reads = { λ c b s r u m. m };
 
     ghost writes = { λ c v b s r u m. m };

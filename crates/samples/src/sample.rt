@@ -76,6 +76,8 @@ impl DekuWriter<()> for Sample {
 }
 
 impl Record<()> for Sample {
+    type Layout = SampleParts;
+
     ghost reads = { λ c b s r u m. m };
 
     ghost writes = { λ c v b s r u m. m };

@@ -120,6 +120,8 @@ impl DekuWriter<()> for Timed {
 }
 
 impl Record<()> for Timed {
+    type Layout = TimedParts;
+
     ghost reads = { λ c b s r u m. m };
 
     ghost writes = { λ c v b s r u m. m };

@@ -79,6 +79,8 @@ impl DekuWriter<()> for Sample {
 }
 
 impl Record<()> for Sample {
+    type Layout = SampleParts;
+
     ghost reads = { λ c b s r u m. m };
 
     ghost writes = { λ c v b s r u m. m };
@@ -87,16 +89,6 @@ impl Record<()> for Sample {
 impl DekuContainerRead for Sample {}
 
 impl DekuContainerWrite for Sample {}
-
-impl deku_c_records::LawForC for Sample {
-    ghost pieces_for_c = { λ v. ⟦<Sample as deku_symmetry::Symmetric<()>>⟧.pieces v tt };
-
-    ghost same_for_c = { ⟦<Sample as deku_symmetry::Symmetric<()>>⟧.same };
-
-    fn law_for_c() {
-        deku_c_records::law_of::<Sample>()
-    }
-}
 
 /// Reads the record from the first byte on. Returns 0, or the number of the error; the record then
 /// stays as it was.

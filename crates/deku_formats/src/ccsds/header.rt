@@ -113,6 +113,8 @@ impl ItemCountLaw for Header {
 }
 
 impl Record<()> for Header {
+    type Layout = Parts;
+
     ghost reads = { λ c b s r u m. m };
 
     ghost writes = { λ c v b s r u m. m };

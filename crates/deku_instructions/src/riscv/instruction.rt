@@ -171,6 +171,8 @@ impl ToParts for Instruction {
 }
 
 impl Record<()> for Instruction {
+    type Layout = Parts;
+
     ghost reads = { λ c b s r u m. m };
 
     ghost writes = { λ c v b s r u m. m };

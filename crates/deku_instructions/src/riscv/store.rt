@@ -5,20 +5,13 @@ ghost use Rattle.deku_instructions.specs.Riscv.{offset_of};
 ghost use Rattle.deku_pieces.specs.Scattered.{low_of, high_of};
 ghost use Rattle.deku.specs.Composing.{Then};
 ghost use Rattle.deku.specs.Shapes.{Shows};
-ghost use Rattle.deku_num.specs.Numbers.{byte, unsigned, signed};
-ghost use Rattle.deku_num.specs.declared.ctx.Endian.TheVariants.{Little};
-ghost use Rattle.deku_bits.specs.declared.ctx.Order.TheVariants.{Lsb0};
-ghost use Rattle.deku_pieces.proofs.Tuples.{pair_symmetric, longer_symmetric};
-ghost use Rattle.deku_pieces.proofs.Turned.{record_symmetric};
-ghost use Rattle.deku_instructions.specs.Fields.{low, signed_low};
 
-use deku::ctx::{BitSize, Endian, NumberCtx, Order};
 use deku::device::{Sink, Source};
 use deku::prelude::{
     DekuContainerRead, DekuContainerWrite, DekuError, DekuReader, DekuWriter, Reader, Writer,
 };
 use deku_symmetry::scattered::{high_bits, low_bits};
-use deku_symmetry::{FromParts, Lsb, Symmetric, ToParts, read_record, write_record};
+use deku_symmetry::{FromParts, Lsb, Record, ToParts, read_record, write_record};
 
 /// The operands of a store (S). Its offset is stored in two places: `offset` joins them.
 #[derive(Debug, Clone, Copy, PartialEq, Eq)]
@@ -144,31 +137,12 @@ impl DekuWriter<()> for Store {
     }
 }
 
-/// The pieces of the parts.
-impl Symmetric<()> for Store {
-    ghost pieces = { λ v _. ⟦<Parts as Symmetric<()>>⟧.pieces
-        (⟦<Store as FromParts>⟧.parts_of v) tt };
+impl Record<()> for Store {
+    type Layout = Parts;
 
-    ghost same = { λ v w. ⟦<Parts as Symmetric<()>>⟧.same (⟦<Store as FromParts>⟧.parts_of v)
-        (⟦<Store as FromParts>⟧.parts_of w) };
+    ghost reads = { λ c b s r u m. m };
 
-    ghost symmetric = { λ _. record_symmetric ⟦<Store as FromParts>⟧.parts_of
-        (longer_symmetric (low 5 (unsigned 32)
-        (⟦<(Endian, BitSize, Order) as NumberCtx>⟧.layout_of (Little, record { 0 = 5 }, Lsb0)))
-        (longer_symmetric (low 3 byte (⟦<(Endian, BitSize, Order) as NumberCtx>⟧.layout_of
-        (Little, record { 0 = 3 }, Lsb0)))
-        (longer_symmetric (low 5 byte (⟦<(Endian, BitSize, Order) as NumberCtx>⟧.layout_of
-        (Little, record { 0 = 5 }, Lsb0)))
-        (pair_symmetric (low 5 byte (⟦<(Endian, BitSize, Order) as NumberCtx>⟧.layout_of
-        (Little, record { 0 = 5 }, Lsb0))) (signed_low 7 (signed 32)
-        (⟦<(Endian, BitSize, Order) as NumberCtx>⟧.layout_of (Little, record { 0 = 7 }, Lsb0))))
-        (λ a rest. (a, rest.0, rest.1)) (λ v. v.0) (λ v. (v.1, v.2)) (λ a rest. refl)
-        (λ a rest. refl))
-        (λ a rest. (a, rest.0, rest.1, rest.2)) (λ v. v.0) (λ v. (v.1, v.2, v.3)) (λ a rest. refl)
-        (λ a rest. refl))
-        (λ a rest. (a, rest.0, rest.1, rest.2, rest.3)) (λ v. v.0) (λ v. (v.1, v.2, v.3, v.4))
-        (λ a rest. refl) (λ a rest. refl))
-        (λ v b s r u m. m) (λ b s r u m. m) };
+    ghost writes = { λ c v b s r u m. m };
 }
 
 impl DekuContainerRead for Store {}

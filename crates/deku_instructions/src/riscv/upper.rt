@@ -3,19 +3,12 @@
 ghost use Rattle.std.specs.Prelude.{refl};
 ghost use Rattle.deku.specs.Composing.{Then};
 ghost use Rattle.deku.specs.Shapes.{Shows};
-ghost use Rattle.deku_num.specs.Numbers.{byte, signed};
-ghost use Rattle.deku_num.specs.declared.ctx.Endian.TheVariants.{Little};
-ghost use Rattle.deku_bits.specs.declared.ctx.Order.TheVariants.{Lsb0};
-ghost use Rattle.deku_pieces.proofs.Tuples.{pair_symmetric};
-ghost use Rattle.deku_pieces.proofs.Turned.{record_symmetric};
-ghost use Rattle.deku_instructions.specs.Fields.{low, signed_low};
 
-use deku::ctx::{BitSize, Endian, NumberCtx, Order};
 use deku::device::{Sink, Source};
 use deku::prelude::{
     DekuContainerRead, DekuContainerWrite, DekuError, DekuReader, DekuWriter, Reader, Writer,
 };
-use deku_symmetry::{FromParts, Lsb, Symmetric, ToParts, read_record, write_record};
+use deku_symmetry::{FromParts, Lsb, Record, ToParts, read_record, write_record};
 
 /// The operands of a load of the high bits of a register (U).
 #[derive(Debug, Clone, Copy, PartialEq, Eq)]
@@ -73,20 +66,12 @@ impl DekuWriter<()> for Upper {
     }
 }
 
-/// The pieces of the parts.
-impl Symmetric<()> for Upper {
-    ghost pieces = { λ v _. ⟦<Parts as Symmetric<()>>⟧.pieces
-        (⟦<Upper as FromParts>⟧.parts_of v) tt };
+impl Record<()> for Upper {
+    type Layout = Parts;
 
-    ghost same = { λ v w. ⟦<Parts as Symmetric<()>>⟧.same (⟦<Upper as FromParts>⟧.parts_of v)
-        (⟦<Upper as FromParts>⟧.parts_of w) };
+    ghost reads = { λ c b s r u m. m };
 
-    ghost symmetric = { λ _. record_symmetric ⟦<Upper as FromParts>⟧.parts_of
-        (pair_symmetric (low 5 byte (⟦<(Endian, BitSize, Order) as NumberCtx>⟧.layout_of
-        (Little, record { 0 = 5 }, Lsb0))) (signed_low 20 (signed 32)
-        (⟦<(Endian, BitSize, Order) as NumberCtx>⟧.layout_of
-        (Little, record { 0 = 20 }, Lsb0))))
-        (λ v b s r u m. m) (λ b s r u m. m) };
+    ghost writes = { λ c v b s r u m. m };
 }
 
 impl DekuContainerRead for Upper {}

@@ -24,7 +24,7 @@ returns-clause-taken g c =
 pub returns-in_err-written-clause-stops : goal.returns-in_err-written-clause-stops
 returns-in_err-written-clause-stops g c =
     let fault : DekuError = c.in_err-written.field-0.0 in
-    let stopping : Failure → Type 0 = StopsOf (g.T.DekuReader.meaning tt) (λ v. g.T.Symmetric.pieces v tt) (λ v. g.T.DekuWriter.meaning v tt) c.args.bytes.now in
+    let stopping : Failure → Type 0 = StopsOf (g.T.DekuReader.meaning tt) (λ v. g.T.Part.pieces v tt) (λ v. g.T.DekuWriter.meaning v tt) c.args.bytes.now in
     let stops : stopping (Fault fault) = inr (inr (inl (record {
       value = c.in-Ok.read.1;
       bits = c.in-Ok.read.0;

@@ -3,8 +3,8 @@ use Rattle.deku_symmetry.proofs.laws.from_bytes_law.Goals as goal
 
 pub returns-clause-back : goal.returns-clause-back
 returns-clause-back g c = λ bytes r w.
-    rest_back (λ v. g.T.Symmetric.pieces v tt) g.T.Symmetric.same (λ v. g.T.DekuWriter.meaning v tt) (g.T.DekuReader.meaning tt) (g.met.T.Symmetric.symmetric tt) bytes r w
+    rest_back (λ v. g.T.Part.pieces v tt) g.T.Part.same (λ v. g.T.DekuWriter.meaning v tt) (g.T.DekuReader.meaning tt) (g.met.T.Symmetric.symmetric tt) bytes r w
 
 pub returns-clause-found : goal.returns-clause-found
 returns-clause-found g c = λ bytes r w.
-    rest_taken (λ v. g.T.Symmetric.pieces v tt) g.T.Symmetric.same (λ v. g.T.DekuWriter.meaning v tt) (g.T.DekuReader.meaning tt) (g.met.T.Symmetric.symmetric tt) bytes r w
+    rest_taken (λ v. g.T.Part.pieces v tt) g.T.Part.same (λ v. g.T.DekuWriter.meaning v tt) (g.T.DekuReader.meaning tt) (g.met.T.Symmetric.symmetric tt) bytes r w
