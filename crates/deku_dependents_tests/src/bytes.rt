@@ -7,7 +7,7 @@ use crate::labels::{Entries, Entry, Label, Name};
 use deku::prelude::{DekuContainerWrite, DekuError, DekuUpdate, NeedSize};
 use deku_symmetry::{Be, Le, MsbLe, SymmetricLast};
 use deku_testing_values::expecting::same;
-use deku_testing_values::records::{expect_packed, expect_refusal};
+use deku_testing_values::records::{expect_both_ways, expect_refusal};
 use std::alloc::Global;
 use std::test::Fail;
 
@@ -31,16 +31,16 @@ fn lists_and_conditions(rt: HostRuntime) -> Result<(), Fail> {
         count: 2,
         items: [0xAB, 0xCD].to_vec(alloc)?,
     };
-    expect_packed(alloc, (), &counted, 24, &[0x02, 0xAB, 0xCD])?;
+    expect_both_ways(alloc, (), &counted, 24, &[0x02, 0xAB, 0xCD])?;
     let alone = Alone {
         items: numbers(alloc, &[0xDEAD, 0xBEEF])?,
     };
-    expect_packed(alloc, (), &alone, 40, &[0x02, 0xDE, 0xAD, 0xBE, 0xEF])?;
+    expect_both_ways(alloc, (), &alone, 40, &[0x02, 0xDE, 0xAD, 0xBE, 0xEF])?;
     let sized = Sizing {
         bytes: 4,
         items: twos(alloc)?,
     };
-    expect_packed(alloc, (), &sized, 40, &[0x04, 0xAB, 0xBC, 0xDE, 0xEF])?;
+    expect_both_ways(alloc, (), &sized, 40, &[0x04, 0xAB, 0xBC, 0xDE, 0xEF])?;
     let rest = ToEnd {
         items: twos(alloc)?,
     };
@@ -49,7 +49,7 @@ fn lists_and_conditions(rt: HostRuntime) -> Result<(), Fail> {
     same(&3, &ToEnd::unpack_whole(alloc, &bytes)?, &(32, rest))?;
     let rows: [(u8, Option<u8>, &[u8]); 2] = [(1, Some(2), &[0x01, 0x02]), (2, None, &[0x02])];
     for (first, second, bytes) in rows {
-        expect_packed(
+        expect_both_ways(
             alloc,
             (),
             &Whether { first, second },
@@ -72,7 +72,7 @@ fn texts_that_a_zero_ends(rt: HostRuntime) -> Result<(), Fail> {
         last: 0x0304,
     };
     let bytes = [0x01, 0x02, 0x68, 0x69, 0x00, 0x03, 0x04];
-    expect_packed(alloc, (), &text, 56, &bytes)?;
+    expect_both_ways(alloc, (), &text, 56, &bytes)?;
     for wrong in TEXTS {
         text.bytes = wrong.to_vec(alloc)?;
         let refusal = DekuError::Assertion("items out of step with their end");
@@ -97,7 +97,7 @@ fn lists_that_an_item_ends(rt: HostRuntime) -> Result<(), Fail> {
     items.push(Le(0x7FFF))?;
     items.push(Le(0x8001))?;
     let mut numbers = Numbers { items };
-    expect_packed(alloc, (), &numbers, 32, &[0xFF, 0x7F, 0x01, 0x80])?;
+    expect_both_ways(alloc, (), &numbers, 32, &[0xFF, 0x7F, 0x01, 0x80])?;
     numbers.items.push(Le(1))?;
     let refusal = DekuError::Assertion("items out of step with their end");
     same(&1, &numbers.to_bytes(alloc), &Err(refusal))?;
@@ -109,14 +109,14 @@ fn lists_that_an_item_ends(rt: HostRuntime) -> Result<(), Fail> {
         mode: 0xC,
         items: [0x11, 0x22].to_vec(alloc)?,
     };
-    expect_packed(alloc, (), &between, 40, &[0x02, 0xAB, 0x0C, 0x11, 0x22])?;
+    expect_both_ways(alloc, (), &between, 40, &[0x02, 0xAB, 0x0C, 0x11, 0x22])?;
     let lists = Lists {
         flags: [true, false].to_vec(alloc)?,
         count: 1,
         counted: [0xFF].to_vec(alloc)?,
         bytes: [0x05, 0xFF].to_vec(alloc)?,
     };
-    expect_packed(alloc, (), &lists, 48, &[0x01, 0x00, 0x01, 0xFF, 0x05, 0xFF])?;
+    expect_both_ways(alloc, (), &lists, 48, &[0x01, 0x00, 0x01, 0xFF, 0x05, 0xFF])?;
     let all = TextAndRest {
         text: [0x68, 0x00].to_vec(alloc)?,
         rest: [0xFF, 0x00].to_vec(alloc)?,
@@ -141,7 +141,7 @@ fn lists_that_a_field_of_an_item_ends(rt: HostRuntime) -> Result<(), Fail> {
     labels.push(label(alloc, &[], 0)?)?;
     let mut name = Name { labels, kind: 1 };
     let bytes = [0x03, 0x61, 0x62, 0x63, 0x00, 0x00, 0x01];
-    expect_packed(alloc, (), &name, 56, &bytes)?;
+    expect_both_ways(alloc, (), &name, 56, &bytes)?;
     name.labels.pop();
     let refusal = DekuError::Assertion("items out of step with their end");
     same(&1, &name.to_bytes(alloc), &Err(refusal))?;
@@ -150,7 +150,7 @@ fn lists_that_a_field_of_an_item_ends(rt: HostRuntime) -> Result<(), Fail> {
         entries: entries.to_vec(alloc)?,
     };
     let bytes = [0x65, 0x80, 0x05, 0x65, 0x80, 0x07];
-    expect_packed(alloc, (), &table, 48, &bytes)?;
+    expect_both_ways(alloc, (), &table, 48, &bytes)?;
     table.entries.push(Entry {
         more: false,
         key: 7,
@@ -176,7 +176,7 @@ fn counts_that_an_update_sets(rt: HostRuntime) -> Result<(), Fail> {
     };
     value.items.push(0xFF)?;
     value.update()?;
-    expect_packed(alloc, (), &value, 32, &[0x03, 0xAB, 0xCD, 0xFF])?;
+    expect_both_ways(alloc, (), &value, 32, &[0x03, 0xAB, 0xCD, 0xFF])?;
     for (items, wanted, count) in UPDATES {
         value.items.resize(items, 0)?;
         let updated = value.update();
@@ -194,11 +194,11 @@ fn counts_that_an_update_sets(rt: HostRuntime) -> Result<(), Fail> {
     };
     two.update()?;
     let bytes = [0x01, 0x00, 0x02, 0x68, 0x01, 0x02, 0x03, 0x04];
-    expect_packed(alloc, (), &two, 64, &bytes)
+    expect_both_ways(alloc, (), &two, 64, &bytes)
 }
 
 fn expect_message(alloc: Global, message: &Message, bytes: &[u8]) -> Result<(), Fail> {
-    expect_packed(alloc, (), message, bytes.len().saturating_mul(8), bytes)
+    expect_both_ways(alloc, (), message, bytes.len().saturating_mul(8), bytes)
 }
 
 #[test]
@@ -272,7 +272,7 @@ fn kinds_that_a_field_chooses_twice(rt: HostRuntime) -> Result<(), Fail> {
             length: 2,
             marks: [0xAA, 0xBB].to_vec(alloc)?,
         };
-        expect_packed(alloc, (), &walk, bytes.len() * 8, bytes)?;
+        expect_both_ways(alloc, (), &walk, bytes.len() * 8, bytes)?;
         let refusal = DekuError::Assertion("kind out of step with its id");
         steps.last = Step::By { times: 0, turn: 0 };
         if id != 0x202 {

@@ -7,7 +7,7 @@ use deku::prelude::{DekuContainerRead, DekuContainerWrite, DekuError, NeedSize};
 use deku_messages::ntp::Ntp;
 use deku_symmetry::{Be, SymmetricLast};
 use deku_testing_values::expecting::same;
-use deku_testing_values::records::{expect_packed, expect_refusal};
+use deku_testing_values::records::{expect_both_ways, expect_refusal};
 use deku_transport::tcp::Tcp;
 use std::alloc::Global;
 use std::test::Fail;
@@ -35,7 +35,7 @@ fn signed_numbers_and_bits(rt: HostRuntime) -> Result<(), Fail> {
         0x07, 0x08, 0x00, 0x00, 0x00, 0x00, 0x00, 0x00, 0x00, 0x00, 0x00, 0x00, 0x00, 0x00, 0x00,
         0x00, 0x00, 0xFF,
     ];
-    expect_packed(rt.alloc(), (), &value, 384, &bytes)
+    expect_both_ways(rt.alloc(), (), &value, 384, &bytes)
 }
 
 fn tcp(alloc: Global, words: u8, options: &[u8]) -> Result<Tcp, Fail> {
@@ -69,7 +69,7 @@ fn items_that_a_field_counts(rt: HostRuntime) -> Result<(), Fail> {
         0x01, 0xBB, 0xC9, 0x3A, 0x01, 0x02, 0x03, 0x04, 0x05, 0x06, 0x07, 0x08, 0x60, 0x12, 0x72,
         0x10, 0xAB, 0xCD, 0x00, 0x00, 0x02, 0x04, 0x05, 0xB4,
     ];
-    expect_packed(alloc, (), &tcp(alloc, 6, &options)?, 192, &bytes)?;
+    expect_both_ways(alloc, (), &tcp(alloc, 6, &options)?, 192, &bytes)?;
     let refusal = DekuError::Assertion("count out of step with items");
     same(&4, &tcp(alloc, 4, &options)?.to_bytes(alloc), &Err(refusal))
 }
@@ -88,7 +88,7 @@ fn table(alloc: Global, size: u16) -> Result<Table, Fail> {
 fn items_that_fill_a_size(rt: HostRuntime) -> Result<(), Fail> {
     let alloc = rt.alloc();
     let bytes = [0x10, 0x08, 0x02, 0x03, 0x04, 0x05, 0x06, 0x07, 0x09];
-    expect_packed(alloc, (), &table(alloc, 8)?, 72, &bytes)?;
+    expect_both_ways(alloc, (), &table(alloc, 8)?, 72, &bytes)?;
     let refusal = DekuError::Assertion("content out of step with its size");
     same(&9, &table(alloc, 9)?.to_bytes(alloc), &Err(refusal))?;
     let refusal = DekuError::Parse("head without a size");
@@ -105,11 +105,11 @@ fn lists_whose_counts_come_first(rt: HostRuntime) -> Result<(), Fail> {
         value: vec![in alloc; Be(0x0102)]?,
     };
     let bytes = [0x02, 0x01, 0x68, 0x69, 0x01, 0x02];
-    expect_packed(alloc, (), &pair, 48, &bytes)
+    expect_both_ways(alloc, (), &pair, 48, &bytes)
 }
 
 fn expect_late(alloc: Global, late: &Late, bytes: &[u8]) -> Result<(), Fail> {
-    expect_packed(alloc, (), late, bytes.len().saturating_mul(8), bytes)
+    expect_both_ways(alloc, (), late, bytes.len().saturating_mul(8), bytes)
 }
 
 #[test]
@@ -164,7 +164,7 @@ fn fields_that_flags_bring(rt: HostRuntime) -> Result<(), Fail> {
     let bytes = [
         0x90, 0x00, 0x08, 0x00, 0x12, 0x34, 0x00, 0x00, 0x00, 0x00, 0x00, 0x07,
     ];
-    expect_packed(alloc, (), &value, 96, &bytes)?;
+    expect_both_ways(alloc, (), &value, 96, &bytes)?;
     let refusal = DekuError::Assertion("padding");
     expect_refusal::<Gre>(alloc, &[0xC0, 0x00, 0x08, 0x00], refusal, 2)
 }
@@ -184,7 +184,7 @@ fn kinds_under_an_id(rt: HostRuntime) -> Result<(), Fail> {
         (Shape::Unknown(9, 3), &[0x93]),
     ];
     for (shape, bytes) in &rows {
-        expect_packed(alloc, (), shape, bytes.len() * 8, bytes)?;
+        expect_both_ways(alloc, (), shape, bytes.len() * 8, bytes)?;
     }
     let refusal = DekuError::Assertion("kind out of step with its id");
     same(&1, &Shape::Unknown(1, 3).to_bytes(alloc), &Err(refusal))?;

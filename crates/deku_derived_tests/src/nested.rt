@@ -5,7 +5,7 @@ use crate::report::{Measured, Report};
 use deku::prelude::{DekuContainerRead, DekuContainerWrite};
 use deku_symmetry::Be;
 use deku_testing_values::expecting::same;
-use deku_testing_values::records::expect_packed;
+use deku_testing_values::records::expect_both_ways;
 use std::alloc::Global;
 use std::test::Fail;
 
@@ -31,7 +31,7 @@ fn records_of_five_fields(rt: HostRuntime) -> Result<(), Fail> {
         0xA9, 0x01, 0x02, 0x03, 0x04, 0x05, 0x06, 0x07, 0xA9, 0x08, 0x09, 0x03, 0x04, 0x05, 0x06,
         0x07, 0xA9, 0x00, 0x00, 0x03, 0x04, 0x05, 0x06, 0x07, 0x0A, 0x0B,
     ];
-    expect_packed(rt.alloc(), (), &report, 208, &bytes)
+    expect_both_ways(rt.alloc(), (), &report, 208, &bytes)
 }
 
 // A block with or without a time, of this event, and of these values with their number.
@@ -100,5 +100,5 @@ fn blocks_in_a_pair(rt: HostRuntime) -> Result<(), Fail> {
     bytes.extend_from_slice(&TIMED)?;
     bytes.extend_from_slice(&[0x10, 0x11])?;
     bytes.extend_from_slice(&UNTIMED)?;
-    expect_packed(alloc, (), &pair, 424, bytes.as_slice())
+    expect_both_ways(alloc, (), &pair, 424, bytes.as_slice())
 }

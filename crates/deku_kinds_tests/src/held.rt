@@ -6,7 +6,7 @@ use crate::widths::{Measured, Sums};
 use deku::prelude::{DekuContainerWrite, DekuError, NeedSize};
 use deku_symmetry::Be;
 use deku_testing_values::expecting::same;
-use deku_testing_values::records::{expect_packed, expect_refusal};
+use deku_testing_values::records::{expect_both_ways, expect_refusal};
 use std::alloc::Global;
 use std::test::Fail;
 
@@ -67,7 +67,7 @@ fn kinds_that_hold_memory(rt: HostRuntime) -> Result<(), Fail> {
     let alloc = rt.alloc();
     for row in 0..EVENTS.len() {
         let bytes = EVENTS[row];
-        expect_packed(alloc, (), &event(alloc, row)?, bytes.len() * 8, bytes)?;
+        expect_both_ways(alloc, (), &event(alloc, row)?, bytes.len() * 8, bytes)?;
     }
     Ok(())
 }
@@ -83,7 +83,7 @@ fn two_of_them(rt: HostRuntime) -> Result<(), Fail> {
         second,
     };
     let bytes = [0x05, 0x01, 0xFF, 0x06, 0x07, 0x01, 0x00, 0x01, 0x7A];
-    expect_packed(alloc, (), &log, 72, &bytes)
+    expect_both_ways(alloc, (), &log, 72, &bytes)
 }
 
 // Events that are not written: how each is made, and why.
@@ -130,7 +130,7 @@ fn between(alloc: Global, kind: u8) -> Result<Between, Fail> {
 fn an_enum_between_lists(rt: HostRuntime) -> Result<(), Fail> {
     let alloc = rt.alloc();
     let bytes = [0x02, 0x0A, 0x0B, 0x01, 0x03, 0x04, 0x01, 0xFF];
-    expect_packed(alloc, (), &between(alloc, 1)?, 64, &bytes)?;
+    expect_both_ways(alloc, (), &between(alloc, 1)?, 64, &bytes)?;
     let refusal = DekuError::Assertion("kind out of step with its id");
     same(&2, &between(alloc, 2)?.to_bytes(alloc), &Err(refusal))
 }
@@ -153,7 +153,7 @@ fn widths_that_a_field_says(rt: HostRuntime) -> Result<(), Fail> {
             value,
             last: 0xFF,
         };
-        expect_packed(alloc, (), &measured, bits, bytes)?;
+        expect_both_ways(alloc, (), &measured, bits, bytes)?;
     }
     let narrow = Measured {
         kind: 0,
@@ -179,7 +179,7 @@ fn sums(alloc: Global, sum: u64) -> Result<Sums, Fail> {
 fn bytes_that_a_field_says(rt: HostRuntime) -> Result<(), Fail> {
     let alloc = rt.alloc();
     let bytes = [0x03, 0x03, 0x02, 0x01, 0x01, 0xFF];
-    expect_packed(alloc, (), &sums(alloc, 0x010203)?, 48, &bytes)?;
+    expect_both_ways(alloc, (), &sums(alloc, 0x010203)?, 48, &bytes)?;
     let refusal = Err(DekuError::Assertion("sum"));
     same(&0, &sums(alloc, 0)?.to_bytes(alloc), &refusal)?;
     let wide = DekuError::Parse("too much data");

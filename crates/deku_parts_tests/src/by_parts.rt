@@ -13,7 +13,7 @@ use deku::prelude::{
 use deku_coded::Coded;
 use deku_symmetry::{Be, FromParts, Msb, Record, Symmetric, ToParts, read_record};
 use deku_testing_values::expecting::{MISFIT, expect_bytes, expect_written, same, writer_in};
-use deku_testing_values::records::{expect_packed, expect_record, expect_refusal};
+use deku_testing_values::records::{expect_both_ways, expect_record, expect_refusal};
 use std::test::Fail;
 
 /// The header of a datagram.
@@ -136,7 +136,7 @@ fn a_record(rt: HostRuntime) -> Result<(), Fail> {
 fn records_in_a_row(rt: HostRuntime) -> Result<(), Fail> {
     let row = (Coded(QUESTION), Year { since: 126 }, Msb::<u8, 1>(1));
     let bytes = [0x04, 0x00, 0x00, 0x35, 0x00, 0x08, 0xBE, 0xEF, 0xFD];
-    expect_packed(rt.alloc(), (), &row, 72, &bytes)
+    expect_both_ways(rt.alloc(), (), &row, 72, &bytes)
 }
 
 #[test]

@@ -7,7 +7,7 @@ use deku::prelude::DekuError;
 use deku_symmetry::{
     Assert, Be, Between, ByteConstant, Is, Magic, MagicBytes, Msb, ZeroBits, ZeroBytes,
 };
-use deku_testing_values::records::expect_packed;
+use deku_testing_values::records::expect_both_ways;
 use std::test::Fail;
 
 // The first bytes of a portable network graphic.
@@ -43,7 +43,7 @@ fn strings_of_bytes(rt: HostRuntime) -> Result<(), Fail> {
     expect_rows::<File>(
         rt.alloc(),
         &[
-            Row::Packed((Magic::new(), Be(2)), 80, &bytes),
+            Row::Written((Magic::new(), Be(2)), 80, &bytes),
             Row::Refused(&other, why, 64),
         ],
     )
@@ -58,7 +58,7 @@ fn numbers_and_ranges(rt: HostRuntime) -> Result<(), Fail> {
     expect_rows::<Header>(
         rt.alloc(),
         &[
-            Row::Packed(five, 24, &[0x4D, 0x5A, 0x59]),
+            Row::Written(five, 24, &[0x4D, 0x5A, 0x59]),
             Row::Refused(&[0x4D, 0x5B, 0x59], another, 16),
             Row::Refused(&[0x4D, 0x5A, 0x49], range, 20),
             Row::Unfit(four, range),
@@ -75,7 +75,7 @@ fn zeros(rt: HostRuntime) -> Result<(), Fail> {
     expect_rows::<Padded>(
         rt.alloc(),
         &[
-            Row::Packed(padded, 96, &bytes),
+            Row::Written(padded, 96, &bytes),
             Row::Refused(&some, DekuError::Assertion("zeros"), 88),
             Row::Refused(&last, DekuError::Assertion("another number"), 96),
         ],
@@ -85,5 +85,5 @@ fn zeros(rt: HostRuntime) -> Result<(), Fail> {
 #[test]
 fn bits_that_are_kept(rt: HostRuntime) -> Result<(), Fail> {
     let kept: Kept = (Msb(17), Msb(5));
-    expect_packed(rt.alloc(), (), &kept, 8, &[0x8D])
+    expect_both_ways(rt.alloc(), (), &kept, 8, &[0x8D])
 }

@@ -6,7 +6,7 @@ use crate::rows::{Row, expect_rows};
 use deku::prelude::{DekuError, NeedSize};
 use deku_symmetry::{Be, CountOf, CountOfLaw, CountedBy, Msb, Symmetric};
 use deku_testing_values::expecting::same;
-use deku_testing_values::records::expect_packed;
+use deku_testing_values::records::expect_both_ways;
 use std::alloc::Global;
 use std::test::Fail;
 
@@ -55,7 +55,7 @@ const PACKED: [(u8, &[u8], usize, &[u8]); 2] = [
 fn as_many_as_the_head_says(rt: HostRuntime) -> Result<(), Fail> {
     for (words, options, bits, bytes) in PACKED {
         let header = header(rt.alloc(), words, options)?;
-        expect_packed(rt.alloc(), (), &header, bits, bytes)?;
+        expect_both_ways(rt.alloc(), (), &header, bits, bytes)?;
     }
     Ok(())
 }

@@ -4,7 +4,7 @@ use crate::rows::{Row, expect_rows};
 use deku::prelude::DekuError;
 use deku_symmetry::{Be, Either, Enum, InRange, Kind, Lsb, LsbEnum, MsbEnum, MsbLeEnum, Otherwise};
 use deku_testing_values::expecting::MISFIT;
-use deku_testing_values::records::expect_packed;
+use deku_testing_values::records::expect_both_ways;
 use std::test::Fail;
 
 // What follows the type of an Ethernet frame: a number, nothing, or a byte after any other type.
@@ -59,9 +59,9 @@ fn each_under_its_id(rt: HostRuntime) -> Result<(), Fail> {
     expect_rows::<Frame>(
         rt.alloc(),
         &[
-            Row::Packed(number, 32, &[0x08, 0x00, 0xBE, 0xEF]),
-            Row::Packed(nothing, 16, &[0x08, 0x06]),
-            Row::Packed(other(0x86DD, 7), 24, &[0x86, 0xDD, 0x07]),
+            Row::Written(number, 32, &[0x08, 0x00, 0xBE, 0xEF]),
+            Row::Written(nothing, 16, &[0x08, 0x06]),
+            Row::Written(other(0x86DD, 7), 24, &[0x86, 0xDD, 0x07]),
             Row::Unfit(other(0x0800, 7), refusal),
             Row::Unfit(other(0x0806, 7), refusal),
             Row::Unfit(other(0x10000, 7), MISFIT),
@@ -72,7 +72,7 @@ fn each_under_its_id(rt: HostRuntime) -> Result<(), Fail> {
 #[test]
 fn an_id_of_two_bytes(rt: HostRuntime) -> Result<(), Fail> {
     let little: Little = Enum::new(Kind(7));
-    expect_packed(rt.alloc(), (), &little, 24, &[0x02, 0x01, 0x07])
+    expect_both_ways(rt.alloc(), (), &little, 24, &[0x02, 0x01, 0x07])
 }
 
 #[test]
@@ -83,7 +83,7 @@ fn ids_of_a_range(rt: HostRuntime) -> Result<(), Fail> {
     expect_rows::<Private>(
         rt.alloc(),
         &[
-            Row::Packed(last, 16, &[0xFE, 0x09]),
+            Row::Written(last, 16, &[0xFE, 0x09]),
             Row::Unfit(beyond, refusal),
             Row::Refused(&[0xFF, 0x09], DekuError::IdVariantNotFound, 8),
             Row::Refused(&[0xEF, 0x09], DekuError::IdVariantNotFound, 8),
@@ -99,8 +99,8 @@ fn ids_in_low_bits(rt: HostRuntime) -> Result<(), Fail> {
     expect_rows::<Word>(
         rt.alloc(),
         &[
-            Row::Packed(one, 8, &[0x85]),
-            Row::Packed(nine, 16, &[0x83, 0xFF]),
+            Row::Written(one, 8, &[0x85]),
+            Row::Written(nine, 16, &[0x83, 0xFF]),
         ],
     )
 }
@@ -114,8 +114,8 @@ fn forty_kinds(rt: HostRuntime) -> Result<(), Fail> {
     expect_rows::<Forty>(
         rt.alloc(),
         &[
-            Row::Packed(Enum::new(first), 16, &[0x00, 0xAA]),
-            Row::Packed(Enum::new(last), 16, &[0x27, 0xBB]),
+            Row::Written(Enum::new(first), 16, &[0x00, 0xAA]),
+            Row::Written(Enum::new(last), 16, &[0x27, 0xBB]),
             Row::Refused(&[0x28, 0xBB], DekuError::IdVariantNotFound, 8),
         ],
     )

@@ -5,7 +5,7 @@ ghost use Rattle.std.specs.Prelude.{◌*◌, Some, refl};
 use deku::prelude::{DekuError, NeedSize};
 use deku_symmetry::{Be, FilledBy, SizeOf, SizeOfLaw, Symmetric};
 use deku_testing_values::expecting::same;
-use deku_testing_values::records::{expect_packed, expect_refusal};
+use deku_testing_values::records::{expect_both_ways, expect_refusal};
 use std::alloc::Global;
 use std::test::Fail;
 
@@ -41,7 +41,7 @@ const PACKED: [(u16, &[u8], usize, &[u8]); 2] = [
 fn as_many_bytes_as_the_head_says(rt: HostRuntime) -> Result<(), Fail> {
     for (bytes, items, bits, packed) in PACKED {
         let text = text(rt.alloc(), bytes, items)?;
-        expect_packed(rt.alloc(), (), &text, bits, packed)?;
+        expect_both_ways(rt.alloc(), (), &text, bits, packed)?;
     }
     let ended = DekuError::Incomplete(NeedSize::new(8));
     expect_refusal::<Text>(rt.alloc(), &[0x00, 0x03, 0x68, 0x69], ended, 32)

@@ -38,8 +38,8 @@ fn there_or_not(rt: HostRuntime) -> Result<(), Fail> {
     expect_rows(
         rt.alloc(),
         &[
-            Row::Packed(header(false, None), 32, &[0x00, 0x00, 0x08, 0x00]),
-            Row::Packed(header(true, Some(Be(0x1234_0000))), 64, &bytes),
+            Row::Written(header(false, None), 32, &[0x00, 0x00, 0x08, 0x00]),
+            Row::Written(header(true, Some(Be(0x1234_0000))), 64, &bytes),
             Row::Refused(&[0x80, 0x00, 0x08, 0x00, 0x12], ended, 32),
             Row::Unfit(header(false, Some(Be(1))), refusal),
             Row::Unfit(header(true, None), refusal),

@@ -4,7 +4,7 @@ use crate::rows::expect_records;
 use deku::prelude::{DekuError, DekuWriter, NeedSize};
 use deku_symmetry::{Be, Lsb, Msb, MsbLe, Prefixed, PrefixedRef, Symmetric};
 use deku_testing_values::expecting::{MISFIT, expect_bytes, same, writer_in};
-use deku_testing_values::records::{expect_packed, expect_record, expect_refusal};
+use deku_testing_values::records::{expect_both_ways, expect_record, expect_refusal};
 use std::alloc::Global;
 use std::marker::PhantomData;
 use std::test::Fail;
@@ -63,7 +63,7 @@ fn too_few(rt: HostRuntime) -> Result<(), Fail> {
 // Seven and seven ones, the low bits first: 11111111 and 11.
 #[test]
 fn bits_after_their_count(rt: HostRuntime) -> Result<(), Fail> {
-    expect_packed(rt.alloc(), (), &flags(rt.alloc(), 7)?, 10, &[0xFF, 0x03])
+    expect_both_ways(rt.alloc(), (), &flags(rt.alloc(), 7)?, 10, &[0xFF, 0x03])
 }
 
 #[test]

@@ -100,7 +100,7 @@ fn bits_that_the_head_counts(rt: HostRuntime) -> Result<(), Fail> {
     expect_rows::<Few>(
         rt.alloc(),
         &[
-            Row::Packed(SizedBy::new(Msb(12), (Msb(5), Msb(9))), 12, &[0xCA, 0x90]),
+            Row::Written(SizedBy::new(Msb(12), (Msb(5), Msb(9))), 12, &[0xCA, 0x90]),
             Row::Refused(&[0xBA, 0x90], REFUSAL, 12),
             Row::Refused(&[0x0A, 0x90], none, 4),
             Row::Unfit(SizedBy::new(Msb(11), (Msb(5), Msb(9))), REFUSAL),

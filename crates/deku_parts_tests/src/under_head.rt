@@ -56,8 +56,8 @@ fn bits_that_the_head_counts(rt: HostRuntime) -> Result<(), Fail> {
     expect_rows::<Number>(
         rt.alloc(),
         &[
-            Row::Packed(UnderHead::new(12, 0xABC), 20, &[0x0C, 0xAB, 0xC0]),
-            Row::Packed(UnderHead::new(0, 0), 8, &[0x00]),
+            Row::Written(UnderHead::new(12, 0xABC), 20, &[0x0C, 0xAB, 0xC0]),
+            Row::Written(UnderHead::new(0, 0), 8, &[0x00]),
             Row::Refused(&[0x21, 0, 0, 0, 0, 0], wide, 8),
             Row::Unfit(UnderHead::new(33, 1), refusal),
         ],

@@ -165,7 +165,8 @@ impl<P: Part<()>, C: IdOfLaw<P>, K: KindsLaw> Part<()> for ChosenBy<P, C, K> {
 }
 
 impl<P: Symmetric<()>, C: IdOfLaw<P>, K: SymmetricKinds> Symmetric<()> for ChosenBy<P, C, K> {
-    ghost symmetric = { λ _. chosen_by_symmetric (λ h k. record { head = h; kind = k; id = record {} })
+    ghost symmetric = { λ _. chosen_by_symmetric
+        (λ h k. record { head = h; kind = k; id = record {} })
         (λ v. v.head) (λ v. v.kind) (λ h k. refl) (λ h k. refl) C.IdOf.id_of C.IdOfLaw.alike
         K.KindIds.id_of K.KindIds.own (P.symmetric tt) K.symmetric };
 }

@@ -156,7 +156,8 @@ impl<P: Part<()>, C: CountOfLaw<P>, T: Part<()>> Part<()> for CountedBy<P, C, T>
 }
 
 impl<P: Symmetric<()>, C: CountOfLaw<P>, T: Symmetric<()>> Symmetric<()> for CountedBy<P, C, T> {
-    ghost symmetric = { λ _. counts_symmetric (λ h xs. record { head = h; items = xs; count = record {} })
+    ghost symmetric = { λ _. counts_symmetric
+        (λ h xs. record { head = h; items = xs; count = record {} })
         (λ v. v.head) (λ v. v.items) (λ h xs. refl) (λ h xs. refl) C.CountOf.count_of
         C.CountOfLaw.alike (P.symmetric tt) (T.symmetric tt) };
 }

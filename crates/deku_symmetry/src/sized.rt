@@ -47,7 +47,8 @@ impl<P: Part<()>, C: SizeOfLaw<P>, T: Part<()>> Part<()> for SizedBy<P, C, T> {
 }
 
 impl<P: Symmetric<()>, C: SizeOfLaw<P>, T: Symmetric<()>> Symmetric<()> for SizedBy<P, C, T> {
-    ghost symmetric = { λ _. sizes_symmetric (λ h x. record { head = h; content = x; size = record {} })
+    ghost symmetric = { λ _. sizes_symmetric
+        (λ h x. record { head = h; content = x; size = record {} })
         (λ v. v.head) (λ v. v.content) (λ h x. refl) (λ h x. refl) C.SizeOf.size_of
         C.SizeOfLaw.alike (P.symmetric tt) (T.symmetric tt) };
 }

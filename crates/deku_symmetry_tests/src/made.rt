@@ -6,7 +6,7 @@ use crate::sample::Sample;
 use deku::prelude::{DekuError, NeedSize};
 use deku_symmetry::{Assert, Check, CheckLaw, Counted, ItemCount, Msb, Symmetric};
 use deku_testing_values::expecting::same;
-use deku_testing_values::records::{expect_packed, expect_refusal};
+use deku_testing_values::records::{expect_both_ways, expect_refusal};
 use std::test::Fail;
 
 // The version is 4.
@@ -50,7 +50,7 @@ fn counted_items(rt: HostRuntime) -> Result<(), Fail> {
         head: 2u8,
         items: [0x68u8, 0x69].to_vec(alloc)?,
     };
-    expect_packed(alloc, (), &two, 24, &[0x02, 0x68, 0x69])
+    expect_both_ways(alloc, (), &two, 24, &[0x02, 0x68, 0x69])
 }
 
 #[test]
@@ -86,7 +86,7 @@ fn a_head_without_a_count(rt: HostRuntime) -> Result<(), Fail> {
 fn what_passes(rt: HostRuntime) -> Result<(), Fail> {
     let alloc = rt.alloc();
     let four: Front = (Assert::new(Msb(4)), Msb(5));
-    expect_packed(alloc, (), &four, 8, &[0x45])
+    expect_both_ways(alloc, (), &four, 8, &[0x45])
 }
 
 #[test]

@@ -5,8 +5,8 @@ use deku::ctx::{BitSize, ByteSize, Endian, Order};
 use deku::prelude::DekuError;
 use deku_symmetry::{Be, Msb, Symmetric};
 use deku_testing_values::expecting::{MISFIT, same};
-use deku_testing_values::records::expect_packed;
 use std::alloc::Global;
+use std::fmt::Debug;
 use std::net::{Ipv4Addr, Ipv6Addr};
 use std::num::{NonZeroI8, NonZeroU16};
 use std::test::Fail;
@@ -23,6 +23,31 @@ fn header_again(alloc: Global) -> Result<(usize, Header), DekuError> {
     let bytes = header.pack(alloc, ())?; // 69 C0 FE
     let (bits, again) = Header::unpack(alloc, bytes.as_slice(), ())?; // 24, and the same header
     Ok((bits, again))
+}
+
+// The value is packed as these bytes, and unpacked from them and what follows, with so many bits
+// counted.
+fn expect_packed<T: Symmetric<C> + PartialEq + Debug, C: Copy>(
+    alloc: Global,
+    ctx: C,
+    value: &T,
+    bits: usize,
+    bytes: &[u8],
+) -> Result<(), Fail>
+    requires reads { T.DekuReader.accepts ctx }
+    requires writes { T.DekuWriter.accepts ctx }
+{
+    let packed = value.pack(alloc, ctx);
+    let mut more = bytes.to_vec(alloc)?;
+    more.push(0xF2)?;
+    let read = T::unpack(alloc, more.as_slice(), ctx);
+    match (&packed, &read) {
+        (Ok(packed), Ok((count, read)))
+            if packed.as_slice() == bytes && *count == bits && *read == *value => { Ok(()) }
+        _ => Err(Fail::new(format_args!(
+            "{value:?}: packed as {packed:?}, and unpacked as {read:?}, not as {bits} bits"
+        ))),
+    }
 }
 
 #[test]

@@ -13,7 +13,7 @@ use deku_symmetry::{
     Be, Constant, ConstantLaw, Counted, FromParts, Le, Magic, Record, ToParts, read_record,
     write_counted, write_record,
 };
-use deku_testing_values::records::{expect_packed, expect_refusal};
+use deku_testing_values::records::{expect_both_ways, expect_refusal};
 use std::test::Fail;
 
 // Two bytes that are always the same.
@@ -46,7 +46,7 @@ impl ConstantLaw<Be<u16>> for Signature {
 fn one_value(rt: HostRuntime) -> Result<(), Fail> {
     let alloc = rt.alloc();
     let start: (Magic<Be<u16>, Signature>, u8) = (Magic::new(), 7);
-    expect_packed(alloc, (), &start, 24, &[0x4D, 0x5A, 0x07])?;
+    expect_both_ways(alloc, (), &start, 24, &[0x4D, 0x5A, 0x07])?;
     let bytes: &[u8] = &[0x4D, 0x5B, 0x07];
     let refusal = DekuError::Assertion("magic");
     expect_refusal::<Magic<Be<u16>, Signature>>(alloc, bytes, refusal, 16)
@@ -114,7 +114,7 @@ fn a_record_that_holds_memory(rt: HostRuntime) -> Result<(), Fail> {
         length: 2,
         bytes: [0x68u8, 0x69].to_vec(alloc)?,
     };
-    expect_packed(alloc, (), &text, 24, &[0x02, 0x68, 0x69])
+    expect_both_ways(alloc, (), &text, 24, &[0x02, 0x68, 0x69])
 }
 
 // A record whose endian comes from outside.
@@ -189,9 +189,9 @@ fn a_record_under_an_endian(rt: HostRuntime) -> Result<(), Fail> {
     let high = [0x01, 0x02, 0x03, 0x04, 0x05, 0x06];
     let low = [0x02, 0x01, 0x06, 0x05, 0x04, 0x03];
     for (endian, bytes) in [(Endian::Big, high), (Endian::Little, low)] {
-        expect_packed(alloc, endian, &pair, 48, &bytes)?;
+        expect_both_ways(alloc, endian, &pair, 48, &bytes)?;
     }
-    expect_packed(alloc, (), &Le(pair), 48, &low)
+    expect_both_ways(alloc, (), &Le(pair), 48, &low)
 }
 
 // A number, how many bits are low ones, these, and the high ones.

@@ -5,7 +5,7 @@ use crate::sample::Sample;
 use deku::prelude::{DekuContainerRead, DekuError};
 use deku_symmetry::{Be, Le, Lsb, LsbBe, Msb, MsbLe, Symmetric};
 use deku_testing_values::expecting::{expect_denied, same};
-use deku_testing_values::records::{expect_packed, expect_record};
+use deku_testing_values::records::{expect_both_ways, expect_record};
 use std::test::Fail;
 
 // Signals of an engine: two of four bits and one of a byte; a byte, two bytes, and a byte; and
@@ -39,7 +39,7 @@ const ENGINES: [(Engine, [u8; 8]); 2] = [
 #[test]
 fn signals_of_an_engine(rt: HostRuntime) -> Result<(), Fail> {
     for (engine, bytes) in &ENGINES {
-        expect_packed(rt.alloc(), (), engine, 64, bytes)?;
+        expect_both_ways(rt.alloc(), (), engine, 64, bytes)?;
     }
     Ok(())
 }
@@ -72,7 +72,7 @@ fn fields_of_all_ways(rt: HostRuntime) -> Result<(), Fail> {
         0xA5, 0x91, 0x04, 0x03, 0x02, 0x01, 0xFF, 0xFE, 0x01, 0x69, 0xC0, 0xFE, 0xFF, 0xF1, 0x23,
         0xAB, 0xFF, 0x10, 0x81,
     ];
-    expect_packed(rt.alloc(), (), &report, 152, &bytes)
+    expect_both_ways(rt.alloc(), (), &report, 152, &bytes)
 }
 
 #[test]

@@ -1,15 +1,18 @@
 //! What records and their bytes are expected to be to one another, and what is refused.
 
-use deku::prelude::{DekuContainerRead, DekuContainerWrite, DekuError, DekuReader, Reader};
-use deku_symmetry::Symmetric;
+use deku::padded_bytes;
+use deku::prelude::{
+    DekuContainerRead, DekuContainerWrite, DekuError, DekuReader, DekuWriter, Reader,
+};
+use deku_pieces::read_whole;
 use std::alloc::Global;
 use std::fmt::Debug;
 use std::io::Cursor;
 use std::test::Fail;
 
-/// The value is packed as these bytes, and unpacked from them and what follows, with so many bits
-/// counted.
-pub fn expect_packed<T: Symmetric<C> + PartialEq + Debug, C: Copy>(
+/// The value is written as these bytes, padded with zeros, and read from them and what follows,
+/// with so many bits counted.
+pub fn expect_both_ways<T: DekuReader<C> + DekuWriter<C> + PartialEq + Debug + Drop, C: Copy>(
     alloc: Global,
     ctx: C,
     value: &T,
@@ -19,22 +22,22 @@ pub fn expect_packed<T: Symmetric<C> + PartialEq + Debug, C: Copy>(
     requires reads { T.DekuReader.accepts ctx }
     requires writes { T.DekuWriter.accepts ctx }
 {
-    let packed = value.pack(alloc, ctx);
+    let written = padded_bytes(value, alloc, ctx);
     let mut more = bytes.to_vec(alloc)?;
     more.push(0xF2)?;
-    let read = T::unpack(alloc, more.as_slice(), ctx);
-    match (&packed, &read) {
-        (Ok(packed), Ok((count, read)))
-            if packed.as_slice() == bytes && *count == bits && *read == *value => { Ok(()) }
+    let read = read_whole::<C, T>(alloc, more.as_slice(), ctx);
+    match (&written, &read) {
+        (Ok(written), Ok((count, read)))
+            if written.as_slice() == bytes && *count == bits && *read == *value => { Ok(()) }
         _ => Err(Fail::new(format_args!(
-            "{value:?}: packed as {packed:?}, and unpacked as {read:?}, not as {bits} bits"
+            "{value:?}: written as {written:?}, and read as {read:?}, not as {bits} bits"
         ))),
     }
 }
 
 /// The record is written as these bytes, whichever call writes it, and read from them and what
 /// follows, whichever call reads it: the bytes are whole, and what follows is left.
-pub fn expect_record<T: Symmetric<()> + DekuContainerRead + DekuContainerWrite + PartialEq + Debug>(
+pub fn expect_record<T: DekuContainerRead + DekuContainerWrite + PartialEq + Debug + Drop>(
     alloc: Global,
     value: &T,
     bytes: &[u8],
@@ -42,7 +45,7 @@ pub fn expect_record<T: Symmetric<()> + DekuContainerRead + DekuContainerWrite +
     requires reads { T.DekuReader.accepts tt }
     requires writes { T.DekuWriter.accepts tt }
 {
-    expect_packed(alloc, (), value, bytes.len().saturating_mul(8), bytes)?;
+    expect_both_ways(alloc, (), value, bytes.len().saturating_mul(8), bytes)?;
     let whole = value.to_bytes(alloc);
     let mut more = bytes.to_vec(alloc)?;
     more.push(0x99)?;
