@@ -16,8 +16,22 @@ pub(crate) fn there<'a>(
     fields: &[Field<'a>],
     path: Option<&str>,
 ) -> Result<(), AllocError> {
-    let path = path.unwrap_or("");
-    let path = arena.keep(path)?;
+    let laws = laws(arena, out, fields, arena.keep(path.unwrap_or(""))?)?;
+    if laws.is_empty() {
+        return out.push_str("    ghost there = { λ r. refl };\n}\n");
+    }
+    out.push_str("\n    ghost there = { λ r. ")?;
+    Text::group(Form::GhostRound, "rw (", laws).print(out, 4, 8, false)?;
+    out.push_str(" refl };\n}\n")
+}
+
+// The laws of the enums whose ids are fields, at each of these. The import of each law is appended.
+fn laws<'a>(
+    arena: &'a Arena,
+    out: &mut String,
+    fields: &[Field<'a>],
+    path: &'a str,
+) -> Result<&'a [Text<'a>], AllocError> {
     let mut laws = Vec::new(arena.alloc());
     for (i, field) in fields.iter().enumerate() {
         let Some(kind) = chosen(field) else {
@@ -27,21 +41,25 @@ pub(crate) fn there<'a>(
         if !fields.iter().take(i).any(|it| chosen(it) == Some(kind)) {
             imported(out, kind, law, path)?;
         }
-        laws.push(Text::of(match field.name {
-            Some(name) => {
-                let name = name.text;
-                arena.print(format_args!("{law}_there r.{name}"))?
-            }
-            None => arena.print(format_args!("{law}_there r.{i}"))?,
-        }))?;
+        laws.push(Text::of(law_at(arena, law, field, i)?))?;
     }
-    if laws.is_empty() {
-        return out.push_str("    ghost there = { λ r. refl };\n}\n");
+    arena.list(laws.as_slice())
+}
+
+// The law of an enum at a field.
+fn law_at<'a>(
+    arena: &'a Arena,
+    law: &str,
+    field: &Field<'a>,
+    place: usize,
+) -> Result<&'a str, AllocError> {
+    match field.name {
+        Some(name) => {
+            let name = name.text;
+            arena.print(format_args!("{law}_there r.{name}"))
+        }
+        None => arena.print(format_args!("{law}_there r.{place}")),
     }
-    out.push_str("\n    ghost there = { λ r. ")?;
-    let laws = arena.list(laws.as_slice())?;
-    Text::group(Form::GhostRound, "rw (", laws).print(out, 4, 8, false)?;
-    out.push_str(" refl };\n}\n")
 }
 
 const LAW: &str = "    \

@@ -53,18 +53,28 @@ pub(crate) fn declaration<'a>(
     let is_split = are_split(arena, kinds)?;
     let mut lines = String::new(arena.alloc());
     for kind in kinds {
-        let case = kind.case;
-        docs(&mut lines, case.docs, "    ///")?;
-        if case.docs.is_empty() {
-            said(&mut lines, case.id)?;
-        }
-        lines.push_str("    ")?;
-        let text = variant(arena, kind)?;
-        text.print(&mut lines, 4, 1, is_split && case.shape == Shape::Named)?;
-        lines.push_str(",\n")?;
+        declared(arena, &mut lines, kind, is_split)?;
     }
     let lines = arena.keep(lines.as_str())?;
     fill(out, ENUM, &[("name", record.name.text), ("kinds", lines)])
+}
+
+// Appends a kind with its comment. With named fields, it may have a line for each.
+fn declared<'a>(
+    arena: &'a Arena,
+    out: &mut String,
+    kind: &Built<'a>,
+    is_split: bool,
+) -> Result<(), AllocError> {
+    let case = kind.case;
+    docs(out, case.docs, "    ///")?;
+    if case.docs.is_empty() {
+        said(out, case.id)?;
+    }
+    out.push_str("    ")?;
+    let text = variant(arena, kind)?;
+    text.print(out, 4, 1, is_split && case.shape == Shape::Named)?;
+    out.push_str(",\n")
 }
 
 // Whether kinds with named fields have a line for each field: if one of them has no room on a line,
@@ -154,16 +164,26 @@ pub(crate) fn implementation<'a>(
     if kinds.iter().any(|kind| kind.is_lent) {
         return lent(arena, out, name, ids, kinds);
     }
-    let mut arms = String::new(arena.alloc());
-    for (i, kind) in kinds.iter().enumerate() {
-        parts(arena, &mut arms, name, kind, (i, kinds.len()), is_given)?;
-    }
-    let arms = arena.keep(arms.as_str())?;
+    let arms = parts_of_all(arena, name, kinds, is_given)?;
     fill(out, TO_PARTS, &[("name", name), ("arms", arms)])?;
     if is_given {
         return Ok(());
     }
     traits(out, name, "write_record(self, writer, ctx)", false)
+}
+
+// How each kind makes its parts.
+fn parts_of_all<'a>(
+    arena: &'a Arena,
+    name: &str,
+    kinds: &[Built<'a>],
+    is_given: bool,
+) -> Result<&'a str, AllocError> {
+    let mut arms = String::new(arena.alloc());
+    for (i, kind) in kinds.iter().enumerate() {
+        parts(arena, &mut arms, name, kind, (i, kinds.len()), is_given)?;
+    }
+    arena.keep(arms.as_str())
 }
 
 const IDS: &str = "
@@ -183,13 +203,21 @@ fn lent<'a>(
     parts_kind(arena, ids, kinds, Held::Nothing)?.print(&mut text, 0, 1, false)?;
     let text = arena.keep(text.as_str())?;
     fill(out, IDS, &[("name", name), ("ids", text)])?;
+    traits(out, name, written_of_each(arena, name, kinds)?, false)
+}
+
+// How each kind is written.
+fn written_of_each<'a>(
+    arena: &'a Arena,
+    name: &str,
+    kinds: &[Built<'a>],
+) -> Result<&'a str, AllocError> {
     let mut body = String::from_str(arena.alloc(), "match self {")?;
     for (i, kind) in kinds.iter().enumerate() {
         written(arena, &mut body, name, kind, (i, kinds.len()))?;
     }
     body.push_str("\n        }")?;
-    let body = arena.keep(body.as_str())?;
-    traits(out, name, body, false)
+    arena.keep(body.as_str())
 }
 
 const ANSWER: &str = "
@@ -229,19 +257,31 @@ fn written<'a>(
     let mut head = String::from_str(arena.alloc(), "            ")?;
     own(arena, name, kind, false)?.print(&mut head, 12, 5, false)?;
     let reference = reference(kind.part);
-    let mut parts = String::new(arena.alloc());
-    if reference == "&parts" {
-        parts.push_str("\n                let parts = ")?;
-        kind.part.texts.value.print(&mut parts, 16, 1, false)?;
-        parts.push(';')?;
-    }
     let words = [
         ("head", arena.keep(head.as_str())?),
-        ("parts", arena.keep(parts.as_str())?),
+        (
+            "parts",
+            local_parts(arena, kind.part.texts.value, reference)?,
+        ),
         ("id", local_id(arena, name, kind, place)?),
         ("reference", reference),
     ];
     fill(out, WRITTEN, &words)
+}
+
+// The local for the parts of a kind, if the reference is to one.
+fn local_parts<'a>(
+    arena: &'a Arena,
+    value: Text<'a>,
+    reference: &str,
+) -> Result<&'a str, AllocError> {
+    if reference != "&parts" {
+        return Ok("");
+    }
+    let mut parts = String::from_str(arena.alloc(), "\n                let parts = ")?;
+    value.print(&mut parts, 16, 1, false)?;
+    parts.push(';')?;
+    arena.keep(parts.as_str())
 }
 
 // The local for the id of a kind.
@@ -476,6 +516,24 @@ fn parts_of<'a>(
 ) -> Result<(), AllocError> {
     let case = constructor(arena, name, kind)?;
     write!(out, "\n      | {case} ↦ ")?;
+    let words = ("either.This (", "either.Other (");
+    let text = on_side(
+        arena,
+        Form::GhostRound,
+        words,
+        place,
+        held_parts(arena, kind)?,
+    )?;
+    if is_given {
+        return text.print(out, 6, 0, false);
+    }
+    let kind = text.after(arena, "kind = ")?;
+    let items = arena.list(&[kind, Text::of("id = record {}")])?;
+    Text::group(Form::GhostBrace, "record {", items).print(out, 6, 0, false)
+}
+
+// The parts of a kind with the id that it keeps, in ghost text.
+fn held_parts<'a>(arena: &'a Arena, kind: &Built<'a>) -> Result<Text<'a>, AllocError> {
     let term = kind.part.texts.term;
     let items = match kind.kept {
         Some(kept) => {
@@ -484,15 +542,7 @@ fn parts_of<'a>(
         }
         None => arena.list(&[term.after(arena, "0 = ")?])?,
     };
-    let text = Text::group(Form::GhostBrace, "record {", items);
-    let words = ("either.This (", "either.Other (");
-    let text = on_side(arena, Form::GhostRound, words, place, text)?;
-    if is_given {
-        return text.print(out, 6, 0, false);
-    }
-    let kind = text.after(arena, "kind = ")?;
-    let items = arena.list(&[kind, Text::of("id = record {}")])?;
-    Text::group(Form::GhostBrace, "record {", items).print(out, 6, 0, false)
+    Ok(Text::group(Form::GhostBrace, "record {", items))
 }
 
 // A kind with its fields as variables, in ghost text.

@@ -151,6 +151,22 @@ pub(crate) fn imports(
     text: &str,
 ) -> Result<(), AllocError> {
     let (term, code) = parted(arena, text)?;
+    ghost_uses(arena, out, module, path, term)?;
+    own_uses(out, module)?;
+    for (from, names) in USED {
+        used(arena, out, from, names, code)?;
+    }
+    Ok(())
+}
+
+// Appends what ghost text imports.
+fn ghost_uses<'a>(
+    arena: &'a Arena,
+    out: &mut String,
+    module: &Module<'_>,
+    path: Option<&str>,
+    term: &'a str,
+) -> Result<(), AllocError> {
     let words = [
         ("words", words_of(arena, term)?),
         ("refusals", if_has(term, "Tells Parse", REFUSALS)),
@@ -159,12 +175,7 @@ pub(crate) fn imports(
         ("made", made(arena, term)?),
         ("kinds", kinds(arena, module, path)?),
     ];
-    fill(out, IMPORTS, &words)?;
-    own_uses(out, module)?;
-    for (from, names) in USED {
-        used(arena, out, from, names, code)?;
-    }
-    Ok(())
+    fill(out, IMPORTS, &words)
 }
 
 // Imports, if this is in a text.

@@ -98,9 +98,18 @@ fn run<'a>(
     if complaints.is_empty() {
         return Ok(Made::Module(if is_proof { answers } else { printed }));
     }
+    Ok(Made::Wrong(in_order(arena, file, text, complaints)?))
+}
+
+// Complaints as they are printed, in the order of their places.
+fn in_order<'a>(
+    arena: &'a Arena,
+    file: &'a str,
+    text: &'a str,
+    mut complaints: Vec<Complaint<'a>>,
+) -> Result<String, AllocError> {
     complaints.sort_by_key(|complaint| complaint.span.start)?;
-    let told = told(arena.alloc(), file, text, complaints.as_slice())?;
-    Ok(Made::Wrong(told))
+    told(arena.alloc(), file, text, complaints.as_slice())
 }
 
 /// Adds complaints, except those of places that were complained of before. It fails if there is no

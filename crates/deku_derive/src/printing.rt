@@ -89,18 +89,30 @@ pub fn print<'a>(
         ..
     } = printer;
     out.push_str(asked.exports.unwrap_or(""))?;
+    let module = text_of(arena, asked, module, proved, out.as_str())?;
+    Ok(Printed {
+        module,
+        answers,
+        complaints,
+    })
+}
+
+// The text of a module of these records.
+fn text_of<'a>(
+    arena: &'a Arena,
+    asked: Asked<'_>,
+    module: &Module<'_>,
+    proved: &'a str,
+    records: &str,
+) -> Result<String, AllocError> {
     let mut text = String::new(arena.alloc());
     docs(&mut text, module.docs, "//!")?;
     if !module.docs.is_empty() {
         text.push_str("//!\n")?;
     }
     origin(arena, &mut text, asked, proved)?;
-    items(arena, &mut text, asked.path, module, out.as_str())?;
-    Ok(Printed {
-        module: text,
-        answers,
-        complaints,
-    })
+    items(arena, &mut text, asked.path, module, records)?;
+    Ok(text)
 }
 
 // What to write where the name of the module is needed.
@@ -337,22 +349,36 @@ impl<'b, 'a> Printer<'b, 'a> {
         )?;
         self.out.push_str(builder.markers.as_str())?;
         let whole = builder.whole()?;
+        self.implementation(record, *shape, fields, builder.owner, whole, path)?;
+        self.built(record, builder)
+    }
+
+    // Appends how a struct is read and written, and notes where its fields are in its parts.
+    fn implementation(
+        &mut self,
+        record: &Record<'a>,
+        shape: Shape,
+        fields: &[Field<'a>],
+        owner: Owner,
+        whole: Whole<'a>,
+        path: Option<&str>,
+    ) -> Result<(), AllocError> {
         self.stepped(record, whole, path)?;
         structs::implementation(
             self.arena,
             &mut self.out,
             record,
-            *shape,
+            shape,
             fields,
-            builder.owner,
+            owner,
             whole,
             path,
         )?;
-        if *shape == Shape::Named {
+        if shape == Shape::Named {
             let places = whole.part.fields.places;
             self.structs.push((record.name.text, places))?;
         }
-        self.built(record, builder)
+        Ok(())
     }
 
     // Notes what proves how a struct is written, if it is written part by part.
@@ -400,31 +426,54 @@ impl<'b, 'a> Printer<'b, 'a> {
     ) -> Result<(), AllocError> {
         self.may_be_enum(record, ids, cases, path)?;
         let owner = self.kind_owner(record)?;
-        let is_lent = owner.is_lent();
+        let (kinds, markers) = self.kinds(record, ids, cases, owner)?;
+        enums::declaration(self.arena, &mut self.out, record, kinds)?;
+        self.out.push_str(markers)?;
+        if let (true, Some(path)) = (owner.is_lent(), path) {
+            enums::answers(&mut self.answers, path, record.name.text, kinds)?;
+        }
+        enums::implementation(self.arena, &mut self.out, record, ids, kinds)
+    }
+
+    // The kinds of an enum, and the markers of their fields.
+    fn kinds(
+        &mut self,
+        record: &Record<'a>,
+        ids: Ids<'a>,
+        cases: &'a [Case<'a>],
+        owner: Owner,
+    ) -> Result<(&'a [Built<'a>], &'a str), AllocError> {
         let mut kinds = Vec::new(self.arena.alloc());
         let mut markers = String::new(self.arena.alloc());
         for case in cases {
-            let kept = self.kept(case, ids)?;
-            let front = words::marker(self.arena, record.name.text, case.name.text, "")?;
-            let mut builder = Builder::new(self.arena, self.records, self.constants, front, owner);
-            let skipped = if kept.is_some() { 1 } else { 0 };
-            builder.fields(case.fields, skipped)?;
-            let part = builder.whole()?.part;
-            markers.push_str(builder.markers.as_str())?;
-            self.built(record, builder)?;
-            kinds.push(Built {
-                case,
-                kept,
-                part,
-                is_lent,
-            })?;
+            kinds.push(self.kind(record, ids, case, owner, &mut markers)?)?;
         }
-        enums::declaration(self.arena, &mut self.out, record, kinds.as_slice())?;
-        self.out.push_str(markers.as_str())?;
-        if let (true, Some(path)) = (is_lent, path) {
-            enums::answers(&mut self.answers, path, record.name.text, kinds.as_slice())?;
-        }
-        enums::implementation(self.arena, &mut self.out, record, ids, kinds.as_slice())
+        let arena = self.arena;
+        Ok((arena.list(kinds.as_slice())?, arena.keep(markers.as_str())?))
+    }
+
+    // A kind of an enum. The markers of its fields are appended.
+    fn kind(
+        &mut self,
+        record: &Record<'a>,
+        ids: Ids<'a>,
+        case: &'a Case<'a>,
+        owner: Owner,
+        markers: &mut String,
+    ) -> Result<Built<'a>, AllocError> {
+        let kept = self.kept(case, ids)?;
+        let front = words::marker(self.arena, record.name.text, case.name.text, "")?;
+        let mut builder = Builder::new(self.arena, self.records, self.constants, front, owner);
+        builder.fields(case.fields, if kept.is_some() { 1 } else { 0 })?;
+        let part = builder.whole()?.part;
+        markers.push_str(builder.markers.as_str())?;
+        self.built(record, builder)?;
+        Ok(Built {
+            case,
+            kept,
+            part,
+            is_lent: owner.is_lent(),
+        })
     }
 
     // What the fields of the kinds of an enum belong to. The type of the ids of kinds that hold

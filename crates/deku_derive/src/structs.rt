@@ -134,22 +134,37 @@ pub(crate) fn implementation<'a>(
     let part = whole.part;
     named(arena, out, name, part.fields.names)?;
     parts_alias(arena, out, name, "Parts", part.texts.kind)?;
-    out.push_str("    ghost parts_of = { λ r. ")?;
-    part.texts.term.print(out, 4, 3, false)?;
-    out.push_str(" };\n\n    ghost record_of = { λ p. ")?;
-    record_of(arena, shape, fields, part)?.print(out, 4, 3, false)?;
-    out.push_str(" };\n\n")?;
+    ghost_parts(out, part.texts.term, record_of(arena, shape, fields, part)?)?;
     from_parts(arena, out, record, shape, fields, part)?;
     there(arena, out, fields, path)?;
     if owner == Owner::Copied {
-        let mut parts = String::from_str(arena.alloc(), "        ")?;
-        part.texts.value.print(&mut parts, 8, 0, false)?;
-        let parts = arena.keep(parts.as_str())?;
-        fill(out, TO_PARTS, &[("name", name), ("parts", parts)])?;
-        return traits(out, name, "write_record(self, writer, ctx)", false);
+        return copied(arena, out, name, part.texts.value);
     }
     traits(out, name, body(arena, whole)?, whole.is_open)?;
     update(arena, out, name, fields)
+}
+
+// Appends the parts of a struct, and the struct that they make, in ghost text.
+fn ghost_parts(out: &mut String, parts: Text<'_>, record: Text<'_>) -> Result<(), AllocError> {
+    out.push_str("    ghost parts_of = { λ r. ")?;
+    parts.print(out, 4, 3, false)?;
+    out.push_str(" };\n\n    ghost record_of = { λ p. ")?;
+    record.print(out, 4, 3, false)?;
+    out.push_str(" };\n\n")
+}
+
+// Appends how a struct is written whose parts are copied out of it.
+fn copied<'a>(
+    arena: &'a Arena,
+    out: &mut String,
+    name: &'a str,
+    value: Text<'a>,
+) -> Result<(), AllocError> {
+    let mut parts = String::from_str(arena.alloc(), "        ")?;
+    value.print(&mut parts, 8, 0, false)?;
+    let parts = arena.keep(parts.as_str())?;
+    fill(out, TO_PARTS, &[("name", name), ("parts", parts)])?;
+    traits(out, name, "write_record(self, writer, ctx)", false)
 }
 
 const PARTS: &str = "
@@ -416,17 +431,11 @@ fn made<'a>(
 ) -> Result<Text<'a>, AllocError> {
     let mut items = Vec::new(arena.alloc());
     for (i, field) in fields.iter().enumerate() {
-        if is_temporary(field) {
-            continue;
+        if !is_temporary(field) {
+            let name = field_name(arena, field, i)?;
+            let value = made_field(arena, field, name, whole, parts)?;
+            items.push(Text::of(item(arena, shape, name, value)?))?;
         }
-        let name = field_name(arena, field, i)?;
-        let parts = if is_array(field) { None } else { parts };
-        let value = value_of(arena, whole, name, parts)?;
-        let value = match chosen(field) {
-            Some(kind) => arena.print(format_args!("{kind}::from_parts({value})"))?,
-            None => value,
-        };
-        items.push(Text::of(item(arena, shape, name, value)?))?;
     }
     let items = arena.list(items.as_slice())?;
     let name = record.name.text;
@@ -435,6 +444,22 @@ fn made<'a>(
     } else {
         Text::group(Form::Brace, joined(arena, name, " {")?, items)
     })
+}
+
+// A field of this name, made of the local of its name, or of parts.
+fn made_field<'a>(
+    arena: &'a Arena,
+    field: &Field<'a>,
+    name: &'a str,
+    whole: Part<'a>,
+    parts: Option<&'a str>,
+) -> Result<&'a str, AllocError> {
+    let parts = if is_array(field) { None } else { parts };
+    let value = value_of(arena, whole, name, parts)?;
+    match chosen(field) {
+        Some(kind) => arena.print(format_args!("{kind}::from_parts({value})")),
+        None => Ok(value),
+    }
 }
 
 /// A field with its value, as a struct of this shape takes it.
