@@ -11,7 +11,8 @@ ghost use Rattle.deku_bits.specs.Standings.{Standing, Going};
 ghost use Rattle.deku_bits.specs.WriterCalls.{Writes, WritesAt, Finalizes};
 ghost use Rattle.deku_meanings.specs.Composing.{Both};
 ghost use Rattle.deku_reading.specs.Early.{NoReadAhead};
-ghost use Rattle.deku.specs.Wholes.{Behind, ReadsOnce, TellsBehind, ReadsBytesOnce, WritesOnce, WritesOver, WritesBare};
+ghost use Rattle.deku.specs.Wholes.{Behind, ReadsOnce, TellsBehind, ReadsBytesOnce, WritesOnce};
+ghost use Rattle.deku.specs.Wholes.{WritesOver, WritesBare};
 
 use deku_bits::bounded::BoundedBitVec;
 use deku_bits::ctx::Order;

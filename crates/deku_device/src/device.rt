@@ -1,11 +1,15 @@
 //! What a reader takes its bytes from, and what a writer gives them to.
 
-ghost use Rattle.std.specs.Prelude.{◌≡◌, ◌≢◌, ℕ, ◌^◌, ◌<◌, ◌≤◌, ◌+◌, ◌-◌, ◌∷◌, List, length, take, drop, Option, Some, None, OnOk, IfErr, IfSome, IsNone, IsTrue, IsFalse};
+ghost use Rattle.std.specs.Prelude.{◌≡◌, ◌≢◌, ℕ, ◌^◌, ◌<◌, ◌≤◌, ◌+◌, ◌-◌, ◌∷◌, List, length, take};
+ghost use Rattle.std.specs.Prelude.{drop, Option, Some, None, OnOk, IfErr, IfSome, IsNone, IsTrue};
+ghost use Rattle.std.specs.Prelude.{IsFalse};
 ghost use Rattle.std.specs.Io.KnownBytes.{Consumes, Keeps};
 ghost use Rattle.std.specs.IoError.{error_kind};
 ghost use Rattle.std.specs.Vec.{vec_len, vec_capacity};
 ghost use Rattle.std.specs.Io.Seek.{SeekMoves};
-ghost use Rattle.deku_device.specs.Devices.{KnownSource, KnownSink, DeviceKept, DeviceFailed, FewerThan, Passes, StaysEmpty, BeginsThenZeros, Gave, Declined};
+ghost use Rattle.deku_device.specs.Devices.{KnownSource, KnownSink, DeviceKept, DeviceFailed};
+ghost use Rattle.deku_device.specs.Devices.{FewerThan, Passes, StaysEmpty, BeginsThenZeros, Gave};
+ghost use Rattle.deku_device.specs.Devices.{Declined};
 ghost use Rattle.deku_device.specs.Seeking.{Seeks, RefusedSeek, ComesFrom, StandsAt};
 
 mod buffered;

@@ -1,7 +1,8 @@
 //! Laws of lists of fields. Each law is the postcondition of an empty function.
 
 ghost use Rattle.deku_fields.specs.Cutting.{CutLaw, CutItemsLaw};
-ghost use Rattle.deku_fields.specs.Cuts.{WriteCutLaw, WriteCallsLaw, WritePartsLaw, ReadCutLaw, ReadCallsLaw, LookLaw, ReadPartsLaw};
+ghost use Rattle.deku_fields.specs.Cuts.{WriteCutLaw, WriteCallsLaw, WritePartsLaw, ReadCutLaw};
+ghost use Rattle.deku_fields.specs.Cuts.{ReadCallsLaw, LookLaw, ReadPartsLaw};
 ghost use Rattle.deku_fields.specs.Headline.{PieceLaw, LayoutLaw, ThereLaw, BackLaw, CallsLaw};
 ghost use Rattle.deku_fields.specs.Places.{PlaceLaw};
 ghost use Rattle.deku_fields.specs.Promise.{PaddedLaw, ReadBackLaw};

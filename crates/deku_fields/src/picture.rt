@@ -1,6 +1,7 @@
 //! The picture of a layout: which bit of which field is where in the bytes that fields lay out.
 
-ghost use Rattle.std.specs.Prelude.{◌≡◌, ◌⊎◌, ℕ, ◌+◌, ◌*◌, ◌<◌, ◌≤◌, All, length, map, slice_index_or, None, IfOk, IfErr, OnOk};
+ghost use Rattle.std.specs.Prelude.{◌≡◌, ◌⊎◌, ℕ, ◌+◌, ◌*◌, ◌<◌, ◌≤◌, All, length, map};
+ghost use Rattle.std.specs.Prelude.{slice_index_or, None, IfOk, IfErr, OnOk};
 ghost use Rattle.std.specs.declared.io.ErrorKind.TheVariants.{OutOfMemory};
 ghost use Rattle.deku_bits.specs.declared.error.DekuError.TheVariants.{InvalidParam, Io};
 ghost use Rattle.deku_bits.specs.Bits.{groups};
@@ -8,7 +9,8 @@ ghost use Rattle.deku_bits.specs.Pieces.{total};
 ghost use Rattle.deku_num.specs.NumberLaws.{place};
 ghost use Rattle.deku_num.specs.NumberCalls.{beyond, IsLayoutRefusal};
 ghost use Rattle.deku_fields.specs.Items.{number_type, field_shape, field_width, IsAllowedField};
-ghost use Rattle.deku_fields.specs.Places.{printed_at, start, IsAt, IsMarked, IsPicture, AreDrawable, IsUndrawable};
+ghost use Rattle.deku_fields.specs.Places.{printed_at, start, IsAt, IsMarked, IsPicture};
+ghost use Rattle.deku_fields.specs.Places.{AreDrawable, IsUndrawable};
 
 use crate::list::Field;
 use deku::ctx::{Endian, Order, Size};

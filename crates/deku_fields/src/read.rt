@@ -1,15 +1,19 @@
 //! Reading lists of fields.
 
-ghost use Rattle.std.specs.Prelude.{◌≡◌, ◌≤◌, ◌*◌, [], false, Ok, length, map, OnOk, IfOk, IfErr, IfSome, IsNone};
+ghost use Rattle.std.specs.Prelude.{◌≡◌, ◌≤◌, ◌*◌, [], false, Ok, length, map, OnOk, IfOk, IfErr};
+ghost use Rattle.std.specs.Prelude.{IfSome, IsNone};
 ghost use Rattle.std.specs.declared.io.ErrorKind.{ErrorKind as IoKind};
 ghost use Rattle.deku_bits.specs.declared.error.DekuError.TheVariants.{Io};
 ghost use Rattle.deku_bits.specs.Pieces.{total};
-ghost use Rattle.deku_bits.specs.ReaderCalls.{Reads, filling, items_of, source_of, Fetched, FetchedInTime, KeepsSourceStopped};
+ghost use Rattle.deku_bits.specs.ReaderCalls.{Reads, filling, items_of, source_of, Fetched};
+ghost use Rattle.deku_bits.specs.ReaderCalls.{FetchedInTime, KeepsSourceStopped};
 ghost use Rattle.deku_bits.specs.Causes.{NoKind, WantsMemory, Caused};
 ghost use Rattle.deku_fields.specs.declared.list.Number.TheVariants.{Unsigned};
 ghost use Rattle.deku_fields.specs.Items.{number_type, field_shape, field_width, IsAllowedField};
 ghost use Rattle.deku_fields.specs.ListCalls.{ListFrom, ReadsField, ReadsFields, ReadsList};
-ghost use Rattle.deku_fields.specs.Promise.{FindsAny, FindsIn, LeavesBehind, ReadsBack, ReadsBackVec, ReadsBackFrom, ReadsWhereSound, ReadsWhereTold};
+ghost use Rattle.deku_fields.specs.Promise.{FindsAny, FindsIn, LeavesBehind, ReadsBack};
+ghost use Rattle.deku_fields.specs.Promise.{ReadsBackVec, ReadsBackFrom, ReadsWhereSound};
+ghost use Rattle.deku_fields.specs.Promise.{ReadsWhereTold};
 
 use crate::list::{Field, Number, high_width};
 use deku::calls::{read_signed, read_unsigned};

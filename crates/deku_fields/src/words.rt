@@ -1,13 +1,15 @@
 //! Words of a command line: fields, and fields with their values.
 
-ghost use Rattle.std.specs.Prelude.{◌≡◌, ◌↔◌, ◌++◌, ◌<◌, ◌^◌, ℕ, List, Some, IsTrue, MatchOption, SomeIff};
+ghost use Rattle.std.specs.Prelude.{◌≡◌, ◌↔◌, ◌++◌, ◌<◌, ◌^◌, ℕ, List, Some, IsTrue, MatchOption};
+ghost use Rattle.std.specs.Prelude.{SomeIff};
 ghost use Rattle.std.specs.Str.Parse.{IsNumeral, digits_value};
 ghost use Rattle.deku_fields.specs.declared.list.Kind.{Kind as FieldKind};
 ghost use Rattle.deku_fields.specs.declared.list.Number.{Number as FieldNumber};
 ghost use Rattle.deku_fields.specs.declared.list.Field.{Field as ListField};
 ghost use Rattle.deku_fields.specs.declared.list.Item.{Item as ListItem};
 ghost use Rattle.deku_num.specs.declared.ctx.Size.{Size as FieldSize};
-ghost use Rattle.deku_fields.specs.Naming.{kind_name, BeginsOption, SplitsEndian, SplitsOrder, NamesNumber, NamesSize, NamesField, NamesItem};
+ghost use Rattle.deku_fields.specs.Naming.{kind_name, BeginsOption, SplitsEndian, SplitsOrder};
+ghost use Rattle.deku_fields.specs.Naming.{NamesNumber, NamesSize, NamesField, NamesItem};
 
 use crate::list::{Field, Item, Kind, Number};
 use deku::ctx::{Endian, Layout, Order, Size};

@@ -1,6 +1,7 @@
 //! Writing lists of items.
 
-ghost use Rattle.std.specs.Prelude.{◌≡◌, ◌<◌, ◌≤◌, ◌^◌, [], false, Ok, IfErr, IfSome, IsTrue, IsFalse};
+ghost use Rattle.std.specs.Prelude.{◌≡◌, ◌<◌, ◌≤◌, ◌^◌, [], false, Ok, IfErr, IfSome, IsTrue};
+ghost use Rattle.std.specs.Prelude.{IsFalse};
 ghost use Rattle.std.specs.declared.io.ErrorKind.{ErrorKind as IoKind};
 ghost use Rattle.deku_bits.specs.declared.error.DekuError.TheVariants.{Io};
 ghost use Rattle.deku_bits.specs.Causes.{WantsPlace, Caused};
@@ -9,7 +10,8 @@ ghost use Rattle.deku.specs.Composing.{Both};
 ghost use Rattle.deku_num.specs.Numbers.{IsWordFor};
 ghost use Rattle.deku_fields.specs.declared.list.Number.TheVariants.{Unsigned};
 ghost use Rattle.deku_fields.specs.Items.{number_type, field_width, IsAllowedField};
-ghost use Rattle.deku_fields.specs.ListCalls.{IsOfKind, WritesItem, WritesItems, WritesWhole, integer_of};
+ghost use Rattle.deku_fields.specs.ListCalls.{IsOfKind, WritesItem, WritesItems, WritesWhole};
+ghost use Rattle.deku_fields.specs.ListCalls.{integer_of};
 ghost use Rattle.deku_fields.specs.Promise.{LaidOut, WritesBack, WritesLaid, WritesWhereSound};
 
 use crate::list::{Item, Number, high_width, plain_width};

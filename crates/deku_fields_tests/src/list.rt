@@ -3,7 +3,9 @@
 ghost use Rattle.std.specs.Prelude.{◌≡◌, ◌<◌, ◌≤◌, ◌*◌, ◌^◌, List, ℕ, Ok, length, map, All};
 ghost use Rattle.deku_bits.specs.Pieces.{total};
 ghost use Rattle.deku_fields.specs.declared.list.Item.{Item as ListItem};
-ghost use Rattle.deku_fields.specs.Items.{field_shape, values_of as list_values, fields_of as list_fields, IsFitting, AlignedFields, LaysOut};
+ghost use Rattle.deku_fields.specs.Items.{field_shape, values_of as list_values};
+ghost use Rattle.deku_fields.specs.Items.{fields_of as list_fields, IsFitting, AlignedFields};
+ghost use Rattle.deku_fields.specs.Items.{LaysOut};
 ghost use Rattle.deku_fields.specs.Promise.{Begins};
 
 use crate::items::{

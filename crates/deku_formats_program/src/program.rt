@@ -13,7 +13,9 @@ ghost use Rattle.deku_formats_program.specs.declared.program.Failure.TheVariants
 ghost use Rattle.deku_formats_program.specs.Forms.{AreNoForm};
 ghost use Rattle.deku_formats_program.specs.Shown.{GainsVerdict, Telling, TellsOf, of_format};
 ghost use Rattle.deku_formats_program.specs.Refusals.{IsRefused, Stopping, StopsOf};
-ghost use Rattle.deku_formats_program.specs.Runs.{status_of, message, IsDone, IsUnfinished, IsShown, IsRecord, AsksForRecord, TextStops, RunEnds, IsStopped};
+ghost use Rattle.deku_formats_program.specs.Runs.{status_of, message, IsDone, IsUnfinished};
+ghost use Rattle.deku_formats_program.specs.Runs.{IsShown, IsRecord, AsksForRecord, TextStops};
+ghost use Rattle.deku_formats_program.specs.Runs.{RunEnds, IsStopped};
 
 use crate::compared::first_difference;
 use crate::shown::Shown;

@@ -1,6 +1,7 @@
 //! The frame.
 
-ghost use Rattle.std.specs.Prelude.{◌≡◌, ◌≤◌, ◌<◌, ◌^◌, List, length as count, codes, IfOk, IfErr, OnOk, MatchBool, Ok};
+ghost use Rattle.std.specs.Prelude.{◌≡◌, ◌≤◌, ◌<◌, ◌^◌, List, length as count, codes, IfOk, IfErr};
+ghost use Rattle.std.specs.Prelude.{OnOk, MatchBool, Ok};
 ghost use Rattle.std.specs.List.{All};
 ghost use Rattle.deku_bits.specs.declared.error.DekuError.TheVariants.{Parse, InvalidParam};
 ghost use Rattle.deku_bits.specs.Faults.{Tells};
@@ -8,7 +9,9 @@ ghost use Rattle.deku_bits.specs.Pieces.{Piece};
 ghost use Rattle.deku_bits.specs.ReaderCalls.{Reads};
 ghost use Rattle.deku_bits.specs.WriterCalls.{Writes};
 ghost use Rattle.deku.specs.Early.{NoReadAhead};
-ghost use Rattle.deku_frame.specs.Frames.{OfFrame, ReadsPing, ReadsSized, ReadsData, ReadsHalves, ReadsPair, ReadsBody, WritesBody, IsInStep, id_of, ReadsFrame, WritesFrame, SameFrame, Updates};
+ghost use Rattle.deku_frame.specs.Frames.{OfFrame, ReadsPing, ReadsSized, ReadsData, ReadsHalves};
+ghost use Rattle.deku_frame.specs.Frames.{ReadsPair, ReadsBody, WritesBody, IsInStep, id_of};
+ghost use Rattle.deku_frame.specs.Frames.{ReadsFrame, WritesFrame, SameFrame, Updates};
 ghost use Rattle.deku_frame.specs.FrameLaws.{frame_symmetric};
 
 use deku::ctx::Endian::Big;

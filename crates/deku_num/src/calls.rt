@@ -1,6 +1,7 @@
 //! Reading numbers from a reader, and writing them to a writer.
 
-ghost use Rattle.std.specs.Prelude.{◌≡◌, ◌<◌, ◌≤◌, ◌%◌, ◌^◌, Bool, true, false, List, length, codes, pos, Ok, OnOk, IfOk, IfErr, IfSome, IsNone};
+ghost use Rattle.std.specs.Prelude.{◌≡◌, ◌<◌, ◌≤◌, ◌%◌, ◌^◌, Bool, true, false, List, length};
+ghost use Rattle.std.specs.Prelude.{codes, pos, Ok, OnOk, IfOk, IfErr, IfSome, IsNone};
 ghost use Rattle.deku_bits.specs.declared.error.DekuError.TheVariants.{Parse, InvalidParam};
 ghost use Rattle.deku_bits.specs.Bits.{bits_of};
 ghost use Rattle.deku_bits.specs.ReaderCalls.{Reads, ReadsWord, TakesBits};
@@ -8,7 +9,8 @@ ghost use Rattle.deku_bits.specs.ReaderCalls.{Fetched, FetchedInTime, KeepsSourc
 ghost use Rattle.deku_bits.specs.WriterCalls.{Writes, KeepsSinkStopped};
 ghost use Rattle.deku_num.specs.NumberLaws.{InType};
 ghost use Rattle.deku_num.specs.Numbers.{width, IsAllowed, IsFieldOf};
-ghost use Rattle.deku_num.specs.NumberCalls.{ReadsNumber, WritesNumber, IsLayoutRefusal, beyond, integers};
+ghost use Rattle.deku_num.specs.NumberCalls.{ReadsNumber, WritesNumber, IsLayoutRefusal, beyond};
+ghost use Rattle.deku_num.specs.NumberCalls.{integers};
 
 use crate::ctx::{Endian, Layout, Order, Size};
 use crate::kernel::{

@@ -1,10 +1,14 @@
 //! Fields as words: their widths, the numbers that words make, and the words of values.
 
-ghost use Rattle.std.specs.Prelude.{◌≡◌, ◌↔◌, ◌<◌, ◌≤◌, ◌-◌, ◌*◌, ◌/◌, ◌^◌, ◌%◌, List, Bool, true, false, length, IsTrue, IsOk, IfOk, IfSome, IsNone, Err, ℤ, pos, negsuc, ◌-ℤ◌, ◌<ℤ◌};
+ghost use Rattle.std.specs.Prelude.{◌≡◌, ◌↔◌, ◌<◌, ◌≤◌, ◌-◌, ◌*◌, ◌/◌, ◌^◌, ◌%◌, List, Bool, true};
+ghost use Rattle.std.specs.Prelude.{false, length, IsTrue, IsOk, IfOk, IfSome, IsNone, Err, ℤ, pos};
+ghost use Rattle.std.specs.Prelude.{negsuc, ◌-ℤ◌, ◌<ℤ◌};
 ghost use Rattle.std.specs.Int.{w128, swap_bytes};
 ghost use Rattle.deku_bits.specs.Bits.{word_of};
 ghost use Rattle.deku_num.specs.NumberLaws.{Within, residue};
-ghost use Rattle.deku_num.specs.Numbers.{IsWordFor, with_sign as signed_worth, width as width_of, sized_width, IsEvenWhere, IsAllowed, number as number_of, IsFieldOf};
+ghost use Rattle.deku_num.specs.Numbers.{IsWordFor, with_sign as signed_worth, width as width_of};
+ghost use Rattle.deku_num.specs.Numbers.{sized_width, IsEvenWhere, IsAllowed, number as number_of};
+ghost use Rattle.deku_num.specs.Numbers.{IsFieldOf};
 
 pub(crate) mod narrow;
 

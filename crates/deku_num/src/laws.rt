@@ -1,7 +1,8 @@
 //! Laws of the numbers that fields hold. Each law is the postcondition of an empty function.
 
 ghost use Rattle.deku_num.specs.NumberCalls.{SizeLaw};
-ghost use Rattle.deku_num.specs.NumberLaws.{FieldLaw, TypeLaw, ByteLaw, SplitLaw, GroupLaw, BitLaw, ResidueLaw};
+ghost use Rattle.deku_num.specs.NumberLaws.{FieldLaw, TypeLaw, ByteLaw, SplitLaw, GroupLaw, BitLaw};
+ghost use Rattle.deku_num.specs.NumberLaws.{ResidueLaw};
 ghost use Rattle.deku_num.specs.Rows.{RecordRows, NumberRows, PartRows, FitRows};
 
 /// The values that fit a field, whose layout is not rejected, are those in range. Each has exactly

@@ -2,7 +2,8 @@
 
 ghost use Rattle.std.specs.Prelude.{◌≡◌, IfOk, IfErr, IfNone, IfSome, MatchOption, All};
 ghost use Rattle.deku_packets.specs.declared.layer.Layer.TheVariants as kinds;
-ghost use Rattle.deku_packets.specs.Back.{between, IsFirstDifference, IsBack, IsChanged, IsFirstChange, IsUnwritten};
+ghost use Rattle.deku_packets.specs.Back.{between, IsFirstDifference, IsBack, IsChanged};
+ghost use Rattle.deku_packets.specs.Back.{IsFirstChange, IsUnwritten};
 ghost use Rattle.deku_bits.specs.WriterCalls.{Finalizes};
 ghost use Rattle.deku.specs.Composing.{Both};
 ghost use Rattle.deku.specs.Wholes.{WritesOnce};

@@ -1,6 +1,7 @@
 //! The program: from words on a command line to a picture.
 
-ghost use Rattle.std.specs.Prelude.{◌≡◌, ◌⊎◌, ◌≤◌, ◌<◌, ℕ, List, [], map, length, IfOk, IfErr, OnOk, OnErr, MatchOption, string_bytes};
+ghost use Rattle.std.specs.Prelude.{◌≡◌, ◌⊎◌, ◌≤◌, ◌<◌, ℕ, List, [], map, length, IfOk, IfErr};
+ghost use Rattle.std.specs.Prelude.{OnOk, OnErr, MatchOption, string_bytes};
 ghost use Rattle.std.specs.Result.{IsErrAnd};
 ghost use Rattle.std.specs.List.{AllZip};
 ghost use Rattle.std.specs.IoError.{error_kind};
@@ -11,7 +12,10 @@ ghost use Rattle.deku_program.specs.Texts.{words_of};
 ghost use Rattle.deku_picture.specs.declared.program.Failure.TheVariants.{Fault};
 ghost use Rattle.deku_picture.specs.Names.{Names, HasSpecs, NameFields, AreNoForm, IsUnnamed};
 ghost use Rattle.deku_picture.specs.declared.program.Form.TheVariants.{Svg};
-ghost use Rattle.deku_picture.specs.Drawn.{status_of, AreDrawn, IsSvg, IsOfForm, IsForm, IsSplit, IsSample, HasNoValues, HasShown, HasNotShown, IsDone, IsUnfinished, IsStopped, IsFailure, RunEnds, TellsWord, IsTold, IsUsageTold};
+ghost use Rattle.deku_picture.specs.Drawn.{status_of, AreDrawn, IsSvg, IsOfForm, IsForm, IsSplit};
+ghost use Rattle.deku_picture.specs.Drawn.{IsSample, HasNoValues, HasShown, HasNotShown, IsDone};
+ghost use Rattle.deku_picture.specs.Drawn.{IsUnfinished, IsStopped, IsFailure, RunEnds, TellsWord};
+ghost use Rattle.deku_picture.specs.Drawn.{IsTold, IsUsageTold};
 
 use crate::cell::rows;
 use crate::drawing::{Drawing, Sample};

@@ -4,7 +4,8 @@ ghost use Rattle.std.specs.Prelude.{◌≡◌, ℕ, Option, length, OnOk, MatchB
 ghost use Rattle.deku_bits.specs.ReaderCalls.{Reads};
 ghost use Rattle.deku_bits.specs.WriterCalls.{Writes};
 ghost use Rattle.deku.specs.Early.{NoReadAhead};
-ghost use Rattle.deku_pieces.specs.Leading.{ReadsCounted, IsCounted, WritesCountedBy, ReadsCountedBy};
+ghost use Rattle.deku_pieces.specs.Leading.{ReadsCounted, IsCounted, WritesCountedBy};
+ghost use Rattle.deku_pieces.specs.Leading.{ReadsCountedBy};
 
 use deku::ctx::Limit;
 use deku::device::{Sink, Source};

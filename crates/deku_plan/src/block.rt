@@ -2,7 +2,7 @@
 
 ghost use Rattle.std.specs.Prelude.{◌≡◌, ◌⊎◌, ◌+◌, ◌*◌, ◌<◌, ◌≤◌};
 ghost use Rattle.std.specs.Prelude.{◌^◌, ◌%◌, ◌++◌, ℕ, All};
-ghost use Rattle.std.specs.Prelude.{length, take, drop, get_or, IfSome, IsTrue, IsFalse};
+ghost use Rattle.std.specs.Prelude.{length, take, drop, slice_index_or, IfSome, IsTrue, IsFalse};
 ghost use Rattle.deku_bits.specs.Bits.{bits_in};
 ghost use Rattle.deku_fields.specs.declared.list.Number.TheVariants.{Unsigned};
 ghost use Rattle.deku_plan.specs.Plans.{widths};
@@ -65,11 +65,11 @@ fn join_fields(
     requires parts { AreParts 0 steps.now parts.now 0 }
     requires values { length values.now ≡ count * length steps.now }
     requires room { count * length (group_sizes parts.now) ≤ length words.old }
-    requires none { (j : ℕ) → get_or words.old j 0 ≡ 0 }
+    requires none { (j : ℕ) → slice_index_or words.old j 0 ≡ 0 }
     ensures fitting { result ≡ 0 → AreFitting (turns count steps.now) values.now }
     ensures words { result ≡ 0 → (r : ℕ) → (k : ℕ) → r < count
-        → get_or words.new (k * count + r) 0 ≡ group_words parts.now (take (length steps.now)
-        (drop (r * length steps.now) values.now)) k % 2 ^ 64 }
+        → slice_index_or words.new (k * count + r) 0 ≡ group_words parts.now
+        (take (length steps.now) (drop (r * length steps.now) values.now)) k % 2 ^ 64 }
     ensures long { length words.new ≡ length words.old }
 {
     let (mut first, mut excess) = (0, 0);
@@ -100,13 +100,13 @@ fn join_field(
     requires room { first + count ≤ length words.old }
     requires values { (r : ℕ) → r < count → r * stride < length values.now }
     ensures fitting { result ≡ 0 → (r : ℕ) → r < count → HasBits step.width
-        (get_or values.now (r * stride) (Unsigned 0)) }
+        (slice_index_or values.now (r * stride) (Unsigned 0)) }
     ensures words { result ≡ 0 → (r : ℕ) → (n : ℕ) → r < count
-        → get_or values.now (r * stride) (Unsigned 0) ≡ Unsigned n
-        → get_or words.new (first + r) 0 ≡ (get_or words.old (first + r) 0 + n * part.scale)
-        % 2 ^ 64 }
+        → slice_index_or values.now (r * stride) (Unsigned 0) ≡ Unsigned n
+        → slice_index_or words.new (first + r) 0
+        ≡ (slice_index_or words.old (first + r) 0 + n * part.scale) % 2 ^ 64 }
     ensures others { (j : ℕ) → (j < first) ⊎ (first + count ≤ j)
-        → get_or words.new j 0 ≡ get_or words.old j 0 }
+        → slice_index_or words.new j 0 ≡ slice_index_or words.old j 0 }
     ensures long { length words.new ≡ length words.old }
 {
     let (mut low, mut high) = (0, 0);
@@ -139,7 +139,7 @@ fn store_records(out: &mut [u8], count: usize, sizes: &[usize], words: &[u64])
     requires sizes { All (λ n. n ≤ 8) sizes.now }
     requires room { length out.old ≡ count * all_sizes sizes.now }
     requires words { count * length sizes.now ≤ length words.now }
-    ensures bits { bits_in out.new ≡ words_bits count sizes.now (λ r k. get_or words.now
+    ensures bits { bits_in out.new ≡ words_bits count sizes.now (λ r k. slice_index_or words.now
         (k * count + r) 0) }
     ensures long { length out.new ≡ length out.old }
 {
@@ -164,7 +164,7 @@ fn store_record(
     requires room { from + all_sizes sizes.now ≤ length out.old }
     requires words { count * length sizes.now ≤ length words.now }
     ensures bits { bits_in (take result out.new) ≡ bits_in (take from out.old) ++ word_bits
-        sizes.now (λ k. get_or words.now (k * count + row) 0) }
+        sizes.now (λ k. slice_index_or words.now (k * count + row) 0) }
     ensures place { result ≡ from + all_sizes sizes.now }
     ensures long { length out.new ≡ length out.old }
 {

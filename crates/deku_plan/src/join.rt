@@ -5,7 +5,8 @@ ghost use Rattle.deku_bits.specs.Bits.{bits_in};
 ghost use Rattle.deku_fields.specs.declared.list.Number.TheVariants.{Unsigned};
 ghost use Rattle.deku_plan.specs.Plans.{widths};
 ghost use Rattle.deku_plan.specs.Laying.{turns, HasBits, AreFitting, value_bits, row_bits};
-ghost use Rattle.deku_plan.specs.Joining.{IsPart, AreParts, held_after, IsJoined, held_bits, joined_count, joined_bits};
+ghost use Rattle.deku_plan.specs.Joining.{IsPart, AreParts, held_after, IsJoined, held_bits};
+ghost use Rattle.deku_plan.specs.Joining.{joined_count, joined_bits};
 
 use crate::lay::put_first;
 use crate::part::Part;

@@ -8,7 +8,8 @@ ghost use Rattle.deku_bits.specs.Bits.{bits_in};
 ghost use Rattle.deku_plan.specs.Plans.{widths};
 ghost use Rattle.deku_plan.specs.Joining.{AreParts};
 ghost use Rattle.deku_plan.specs.Blocks.{group_sizes};
-ghost use Rattle.deku_plan.specs.Laying.{IsShort, turns, HasBits, AreFitting, value_bits, row_bits, IsHeld, laid_count, laid_bits};
+ghost use Rattle.deku_plan.specs.Laying.{IsShort, turns, HasBits, AreFitting, value_bits, row_bits};
+ghost use Rattle.deku_plan.specs.Laying.{IsHeld, laid_count, laid_bits};
 
 use crate::block::{WORDS, laid_at_once};
 use crate::join::join_records;

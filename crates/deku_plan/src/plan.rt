@@ -1,19 +1,23 @@
 //! Fields that are looked at once.
 
-ghost use Rattle.std.specs.Prelude.{◌≡◌, ◌⊎◌, ◌↔◌, ◌∷◌, ℕ, ◌+◌, ◌*◌, ◌<◌, ◌≤◌, ◌^◌, All, List, [], map, length, IsTrue, IfOk, IfErr, OnOk, IfSome, IsNone};
+ghost use Rattle.std.specs.Prelude.{◌≡◌, ◌⊎◌, ◌↔◌, ◌∷◌, ℕ, ◌+◌, ◌*◌, ◌<◌, ◌≤◌, ◌^◌, All, List, []};
+ghost use Rattle.std.specs.Prelude.{map, length, IsTrue, IfOk, IfErr, OnOk, IfSome, IsNone};
 ghost use Rattle.std.specs.declared.io.ErrorKind.TheVariants.{OutOfMemory};
 ghost use Rattle.deku_bits.specs.declared.error.DekuError.TheVariants.{Io};
 ghost use Rattle.deku_bits.specs.declared.ctx.Order.{Order as FieldOrder};
 ghost use Rattle.deku_bits.specs.Bits.{groups};
 ghost use Rattle.deku_bits.specs.Pieces.{total, AlignedFrom};
 ghost use Rattle.deku_bits.specs.Causes.{NoKind, WantsPlace, Caused};
-ghost use Rattle.deku_bits.specs.ReaderCalls.{Reads, filling, source_of, Fetched, FetchedInTime, KeepsSourceStopped};
+ghost use Rattle.deku_bits.specs.ReaderCalls.{Reads, filling, source_of, Fetched, FetchedInTime};
+ghost use Rattle.deku_bits.specs.ReaderCalls.{KeepsSourceStopped};
 ghost use Rattle.deku_bits.specs.WriterCalls.{Writes, sink_of, KeepsSinkStopped};
 ghost use Rattle.deku_fields.specs.Items.{field_shape, AlignedFields, IsAllowedField};
 ghost use Rattle.deku_fields.specs.ListCalls.{ReadsFields, WritesItems};
-ghost use Rattle.deku_fields.specs.Promise.{FindsAny, LeavesBehind, ReadsBack, ReadsWhereSound, ReadsWhereTold, WritesLaid, WritesWhereSound};
+ghost use Rattle.deku_fields.specs.Promise.{FindsAny, LeavesBehind, ReadsBack, ReadsWhereSound};
+ghost use Rattle.deku_fields.specs.Promise.{ReadsWhereTold, WritesLaid, WritesWhereSound};
 ghost use Rattle.deku_plan.specs.Laying.{IsShort};
-ghost use Rattle.deku_plan.specs.Plans.{AreSteps, AreFirsts, IsHigh, IsStepOf, widths, items, IsFirstRejected, AreTooMany};
+ghost use Rattle.deku_plan.specs.Plans.{AreSteps, AreFirsts, IsHigh, IsStepOf, widths, items};
+ghost use Rattle.deku_plan.specs.Plans.{IsFirstRejected, AreTooMany};
 ghost use Rattle.deku_plan.specs.Records.{IsStraight};
 ghost use Rattle.deku_plan.specs.Words.{AreNamed, AreWrong};
 

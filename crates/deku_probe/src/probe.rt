@@ -3,16 +3,19 @@
 
 #![tactic(auto, using(deku_device::proofs::Wholes::onward_same, deku_device::proofs::Wholes::read_onward, deku_device::proofs::Wholes::nowhere))]
 
-ghost use Rattle.std.specs.Prelude.{◌≡◌, ◌≢◌, ◌<◌, ◌≤◌, ◌+◌, ◌-◌, ◌^◌, ◌↔◌, min, [], ◌∷◌, Some, None, length, take, OnOk, OnErr, IfOk, IfErr, IfSome, IsOk};
+ghost use Rattle.std.specs.Prelude.{◌≡◌, ◌≢◌, ◌<◌, ◌≤◌, ◌+◌, ◌-◌, ◌^◌, ◌↔◌, min, [], ◌∷◌, Some};
+ghost use Rattle.std.specs.Prelude.{None, length, take, OnOk, OnErr, IfOk, IfErr, IfSome, IsOk};
 ghost use Rattle.std.specs.Io.{ReadsAtMost, WritesAtMost};
-ghost use Rattle.std.specs.Io.Cursor.{cursor_position, cursor_inner, cursor_remaining, IsSeekResult, IsSeekFromEnd};
+ghost use Rattle.std.specs.Io.Cursor.{cursor_position, cursor_inner, cursor_remaining};
+ghost use Rattle.std.specs.Io.Cursor.{IsSeekResult, IsSeekFromEnd};
 ghost use Rattle.std.specs.Io.KnownBytes.{Appends, Consumes, Keeps, ReadConsumes, WriteAppends};
 ghost use Rattle.std.specs.Io.Seek.{SeekMoves};
 ghost use Rattle.std.specs.IoError.{error_kind};
 ghost use Rattle.deku_device.specs.Cursors.{cursor_known};
 ghost use Rattle.deku_probe.specs.Probes.{failing_source, failing_sink};
 ghost use Rattle.deku_device.specs.Seeking.{place_on, Seeks, RefusedSeek, ComesFrom, StandsAt};
-ghost use Rattle.deku_device.specs.Devices.{DeviceKept, DeviceFailed, FewerThan, Passes, StaysEmpty, Gave, Declined};
+ghost use Rattle.deku_device.specs.Devices.{DeviceKept, DeviceFailed, FewerThan, Passes};
+ghost use Rattle.deku_device.specs.Devices.{StaysEmpty, Gave, Declined};
 
 mod trickle;
 

@@ -1,10 +1,16 @@
 //! Reading bits.
 
-ghost use Rattle.std.specs.Prelude.{◌≡◌, ◌+◌, ◌*◌, ◌^◌, ◌≤◌, ◌<◌, false, Ok, [], length, take, drop, OnOk, IfOk, IfErr, IfSome, IsNone};
+ghost use Rattle.std.specs.Prelude.{◌≡◌, ◌+◌, ◌*◌, ◌^◌, ◌≤◌, ◌<◌, false, Ok, [], length, take};
+ghost use Rattle.std.specs.Prelude.{drop, OnOk, IfOk, IfErr, IfSome, IsNone};
 ghost use Rattle.std.specs.Borrow.{Lends, sem};
 ghost use Rattle.deku_stream.specs.Bits.{bits_of, facing};
 ghost use Rattle.deku_stream.specs.Standings.{Going};
-ghost use Rattle.deku_reader.specs.ReaderCalls.{Reads, TakesBits, Ending, Skips, ReadsBits, ReadsVec, ReadsBytes, ReadsByteVec, ReadsWord, IsLeftover, filling, items_of, source_of, unread_of, read_count, ReadsOn, AdmitsRead, Fetched, FetchedAhead, FetchedInTime, KeepsSourceFor, KeepsSourceStopped, NamesRestOf};
+ghost use Rattle.deku_reader.specs.ReaderCalls.{Reads, TakesBits, Ending, Skips, ReadsBits};
+ghost use Rattle.deku_reader.specs.ReaderCalls.{ReadsVec, ReadsBytes, ReadsByteVec, ReadsWord};
+ghost use Rattle.deku_reader.specs.ReaderCalls.{IsLeftover, filling, items_of, source_of};
+ghost use Rattle.deku_reader.specs.ReaderCalls.{unread_of, read_count, ReadsOn, AdmitsRead};
+ghost use Rattle.deku_reader.specs.ReaderCalls.{Fetched, FetchedAhead, FetchedInTime};
+ghost use Rattle.deku_reader.specs.ReaderCalls.{KeepsSourceFor, KeepsSourceStopped, NamesRestOf};
 ghost use Rattle.deku_reader.specs.contracts.reader.Reader.{the_row as reader-row};
 
 mod progress;

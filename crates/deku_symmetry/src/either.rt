@@ -9,8 +9,10 @@ ghost use Rattle.deku_bits.specs.ReaderCalls.{Reads};
 ghost use Rattle.deku_bits.specs.WriterCalls.{Writes};
 ghost use Rattle.deku.specs.Early.{NoReadAhead};
 ghost use Rattle.deku_pieces.specs.Symmetric.{IsSymmetric};
-ghost use Rattle.deku_pieces.specs.Ids.{in_range, id_of_either, is_own, UnderOwn, OfEither, SameEither, IfKnown, ReadsEither, WritesEither};
-ghost use Rattle.deku_pieces.proofs.Ids.{one_symmetric, one_knows, range_symmetric, either_symmetric, either_knows};
+ghost use Rattle.deku_pieces.specs.Ids.{in_range, id_of_either, is_own, UnderOwn, OfEither};
+ghost use Rattle.deku_pieces.specs.Ids.{SameEither, IfKnown, ReadsEither, WritesEither};
+ghost use Rattle.deku_pieces.proofs.Ids.{one_symmetric, one_knows, range_symmetric};
+ghost use Rattle.deku_pieces.proofs.Ids.{either_symmetric, either_knows};
 
 use crate::traits::{Part, Symmetric};
 use deku::device::{Sink, Source};

@@ -4,7 +4,8 @@ ghost use Rattle.std.specs.Prelude.{ℕ};
 ghost use Rattle.deku.specs.declared.ctx.Limit.TheVariants.{Count};
 ghost use Rattle.deku_pieces.specs.Pieces.{OfTimes, SameEach};
 ghost use Rattle.deku_pieces.specs.Packs.{ToBytesLaw, FromBytesLaw, FoundLaw, WholeBytesLaw};
-ghost use Rattle.deku_symmetry.specs.Counting.{UnpackLaw, CountedLaw, EachToBytesLaw, CountedUnpackLaw};
+ghost use Rattle.deku_symmetry.specs.Counting.{UnpackLaw, CountedLaw, EachToBytesLaw};
+ghost use Rattle.deku_symmetry.specs.Counting.{CountedUnpackLaw};
 
 use crate::traits::Symmetric;
 use deku::DekuReader;

@@ -2,14 +2,17 @@
 
 #![tactic(auto, using(deku_device::proofs::Wholes::onward_same))]
 
-ghost use Rattle.std.specs.Prelude.{◌≡◌, ◌+◌, ◌/◌, ◌*◌, ◌^◌, ◌<◌, ◌≤◌, Ok, length, IfOk, IfErr, IsTrue, IsFalse};
+ghost use Rattle.std.specs.Prelude.{◌≡◌, ◌+◌, ◌/◌, ◌*◌, ◌^◌, ◌<◌, ◌≤◌, Ok, length, IfOk, IfErr};
+ghost use Rattle.std.specs.Prelude.{IsTrue, IsFalse};
 ghost use Rattle.std.specs.declared.io.ErrorKind.TheVariants.{OutOfMemory};
 ghost use Rattle.deku_stream.specs.declared.ctx.Order.TheVariants.{Msb0};
 ghost use Rattle.deku_stream.specs.declared.error.DekuError.TheVariants.{Io};
 ghost use Rattle.deku_stream.specs.Bits.{bits_in, bits_of, facing, shown};
 ghost use Rattle.deku_stream.specs.Writers.{Nothing, Meets, pending_bits};
 ghost use Rattle.deku_stream.specs.Standings.{Going, Stopped, Untouched, count_of};
-ghost use Rattle.deku_writer.specs.WriterCalls.{Writes, WritesAt, WritesBits, WritesWord, Finalizes, pending_of, order_of, written_count, WritesOn, KeepsSinkStopped, pending_state};
+ghost use Rattle.deku_writer.specs.WriterCalls.{Writes, WritesAt, WritesBits, WritesWord};
+ghost use Rattle.deku_writer.specs.WriterCalls.{Finalizes, pending_of, order_of, written_count};
+ghost use Rattle.deku_writer.specs.WriterCalls.{WritesOn, KeepsSinkStopped, pending_state};
 
 mod bytes;
 mod held;

@@ -1,6 +1,7 @@
 //! Texts that end with a zero.
 
-ghost use Rattle.std.specs.Prelude.{◌≡◌, ◌<◌, ℕ, List, [], ◌∷◌, ◌++◌, length, codes, OnOk, IfOk, IfErr, MatchOption};
+ghost use Rattle.std.specs.Prelude.{◌≡◌, ◌<◌, ℕ, List, [], ◌∷◌, ◌++◌, length, codes, OnOk, IfOk};
+ghost use Rattle.std.specs.Prelude.{IfErr, MatchOption};
 ghost use Rattle.std.specs.List.{Contains};
 ghost use Rattle.deku_bits.specs.declared.error.DekuError.TheVariants.{Parse};
 ghost use Rattle.deku_bits.specs.ReaderCalls.{Reads, read_count};

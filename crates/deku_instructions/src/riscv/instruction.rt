@@ -3,7 +3,17 @@
 ghost use Rattle.std.specs.Prelude.{◌≡◌, refl};
 ghost use Rattle.deku_instructions.specs.Words.{low_word, middle_word, high_word, parts_of_word};
 ghost use Rattle.deku_instructions.specs.Words.{word_of_parts, parts_back};
-ghost use Rattle.deku_instructions.specs.declared.riscv.instruction.Instruction.TheVariants.{Load, Fence, OperateImmediate, AddUpper, Store, Operate, LoadUpper, Branch, JumpRegister, Jump, System};
+ghost use Rattle.deku_instructions.specs.declared.riscv.instruction.Instruction.TheVariants.{Load};
+ghost use Rattle.deku_instructions.specs.declared.riscv.instruction.Instruction.TheVariants.{Fence};
+ghost use Rattle.deku_instructions.specs.declared.riscv.instruction.Instruction.TheVariants.{OperateImmediate};
+ghost use Rattle.deku_instructions.specs.declared.riscv.instruction.Instruction.TheVariants.{AddUpper};
+ghost use Rattle.deku_instructions.specs.declared.riscv.instruction.Instruction.TheVariants.{Store};
+ghost use Rattle.deku_instructions.specs.declared.riscv.instruction.Instruction.TheVariants.{Operate};
+ghost use Rattle.deku_instructions.specs.declared.riscv.instruction.Instruction.TheVariants.{LoadUpper};
+ghost use Rattle.deku_instructions.specs.declared.riscv.instruction.Instruction.TheVariants.{Branch};
+ghost use Rattle.deku_instructions.specs.declared.riscv.instruction.Instruction.TheVariants.{JumpRegister};
+ghost use Rattle.deku_instructions.specs.declared.riscv.instruction.Instruction.TheVariants.{Jump};
+ghost use Rattle.deku_instructions.specs.declared.riscv.instruction.Instruction.TheVariants.{System};
 ghost use Rattle.deku.specs.Composing.{Then};
 ghost use Rattle.deku.specs.Shapes.{Shows};
 

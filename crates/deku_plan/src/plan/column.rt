@@ -4,7 +4,8 @@ ghost use Rattle.std.specs.Prelude.{◌≡◌, ◌+◌, ◌*◌, ◌<◌, ◌≤
 ghost use Rattle.deku_bits.specs.ReaderCalls.{Reads, filling};
 ghost use Rattle.deku_fields.specs.ListCalls.{ReadsFields};
 ghost use Rattle.deku_plan.specs.Plans.{AreSteps, IsHigh, IsStepOf};
-ghost use Rattle.deku_plan.specs.Records.{records, IsStraight, AreFirstAt, AreEachAt, HasColumn, ReadsColumn};
+ghost use Rattle.deku_plan.specs.Records.{records, IsStraight, AreFirstAt, AreEachAt, HasColumn};
+ghost use Rattle.deku_plan.specs.Records.{ReadsColumn};
 
 use crate::cut::{number_at, placed_at, short_at};
 use crate::plan::read::read_steps;

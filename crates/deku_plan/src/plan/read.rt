@@ -2,12 +2,14 @@
 
 ghost use Rattle.std.specs.Prelude.{◌≡◌, ◌≤◌, [], length, map, true, Ok, OnOk, IfSome, IsNone};
 ghost use Rattle.deku_bits.specs.Pieces.{total};
-ghost use Rattle.deku_bits.specs.ReaderCalls.{Reads, filling, source_of, Fetched, FetchedInTime, KeepsSourceStopped};
+ghost use Rattle.deku_bits.specs.ReaderCalls.{Reads, filling, source_of, Fetched, FetchedInTime};
+ghost use Rattle.deku_bits.specs.ReaderCalls.{KeepsSourceStopped};
 ghost use Rattle.deku_bits.specs.Causes.{NoKind, Caused};
 ghost use Rattle.deku_fields.specs.declared.list.Number.TheVariants.{Unsigned};
 ghost use Rattle.deku_fields.specs.Items.{field_shape, field_width};
 ghost use Rattle.deku_fields.specs.ListCalls.{ReadsField, ReadsFields};
-ghost use Rattle.deku_fields.specs.Promise.{FindsAny, LeavesBehind, ReadsBack, ReadsWhereSound, ReadsWhereTold};
+ghost use Rattle.deku_fields.specs.Promise.{FindsAny, LeavesBehind, ReadsBack, ReadsWhereSound};
+ghost use Rattle.deku_fields.specs.Promise.{ReadsWhereTold};
 ghost use Rattle.deku_plan.specs.Plans.{IsStepOf, IsHigh, AreSteps};
 
 use crate::step::Step;

@@ -2,7 +2,8 @@
 
 #![tactic(auto, using(deku_device::proofs::Wholes::onward_same, deku_device::proofs::Wholes::read_onward, deku_device::proofs::Wholes::nowhere))]
 
-ghost use Rattle.std.specs.Prelude.{◌≡◌, ◌≢◌, ◌<◌, ◌≤◌, ◌^◌, ◌∷◌, [], length, Some, OnOk, OnErr, IfOk, IfErr, IsOk};
+ghost use Rattle.std.specs.Prelude.{◌≡◌, ◌≢◌, ◌<◌, ◌≤◌, ◌^◌, ◌∷◌, [], length, Some, OnOk, OnErr};
+ghost use Rattle.std.specs.Prelude.{IfOk, IfErr, IsOk};
 ghost use Rattle.std.specs.Io.{ReadsAtMost};
 ghost use Rattle.std.specs.Io.Cursor.{cursor_position, cursor_inner, IsSeekResult, IsSeekFromEnd};
 ghost use Rattle.std.specs.Io.KnownBytes.{Consumes, Keeps, ReadConsumes};
@@ -11,7 +12,8 @@ ghost use Rattle.std.specs.IoError.{error_kind};
 ghost use Rattle.deku_device.specs.Cursors.{cursor_known};
 ghost use Rattle.deku_probe.specs.Probes.{trickling};
 ghost use Rattle.deku_device.specs.Seeking.{place_on, Seeks, RefusedSeek, ComesFrom};
-ghost use Rattle.deku_device.specs.Devices.{DeviceKept, DeviceFailed, FewerThan, Passes, StaysEmpty};
+ghost use Rattle.deku_device.specs.Devices.{DeviceKept, DeviceFailed, FewerThan, Passes};
+ghost use Rattle.deku_device.specs.Devices.{StaysEmpty};
 
 use deku_device::device::Source;
 use std::io;

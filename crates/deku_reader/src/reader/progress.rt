@@ -2,7 +2,8 @@
 
 #![tactic(auto, using(deku_device::proofs::Wholes::onward_same))]
 
-ghost use Rattle.std.specs.Prelude.{◌≡◌, ◌≢◌, ℕ, ◌*◌, ◌^◌, ◌<◌, ◌≤◌, ◌⊎◌, ◌-◌, false, Ok, [], ◌∷◌, length, drop, IfOk, OnOk, IfErr, IfSome, IsNone};
+ghost use Rattle.std.specs.Prelude.{◌≡◌, ◌≢◌, ℕ, ◌*◌, ◌^◌, ◌<◌, ◌≤◌, ◌⊎◌, ◌-◌, false, Ok, [], ◌∷◌};
+ghost use Rattle.std.specs.Prelude.{length, drop, IfOk, OnOk, IfErr, IfSome, IsNone};
 ghost use Rattle.std.specs.Io.KnownBytes.{Consumes};
 ghost use Rattle.std.specs.IoError.{error_kind};
 ghost use Rattle.std.specs.Vec.{vec_len, vec_capacity};
@@ -12,7 +13,9 @@ ghost use Rattle.deku_device.specs.Devices.{DeviceKept, DeviceFailed, FewerThan,
 ghost use Rattle.deku_stream.specs.Kept.{Admits};
 ghost use Rattle.deku_stream.specs.Moving.{Moves, FewerBits};
 ghost use Rattle.deku_stream.specs.Faults.{error_of};
-ghost use Rattle.deku_reader.specs.ReaderCalls.{ReadsAt, TakesBits, Ending, Skips, ReadsBytes, ReadsWord, FetchesFor, FetchesAhead, NoneEarly, NeedsNone, NamesRest, filling, window_of};
+ghost use Rattle.deku_reader.specs.ReaderCalls.{ReadsAt, TakesBits, Ending, Skips, ReadsBytes};
+ghost use Rattle.deku_reader.specs.ReaderCalls.{ReadsWord, FetchesFor, FetchesAhead, NoneEarly};
+ghost use Rattle.deku_reader.specs.ReaderCalls.{NeedsNone, NamesRest, filling, window_of};
 ghost use Rattle.deku_stream.specs.Standings.{Going, Stopped, Untouched, count_of};
 
 mod bits;

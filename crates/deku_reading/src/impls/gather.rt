@@ -4,7 +4,8 @@ ghost use Rattle.std.specs.Prelude.{◌≡◌, OnOk};
 ghost use Rattle.std.specs.List.{FoldsTo};
 ghost use Rattle.deku_bits.specs.ReaderCalls.{Reads};
 ghost use Rattle.deku_reading.specs.Early.{NoReadAhead};
-ghost use Rattle.deku_reading.specs.Limits.{ReadsCount, ReadsUntil, ReadsBitsOf, ReadsToEnd, ReadsUnder, AsksAll, EndsItself, MappedBy};
+ghost use Rattle.deku_reading.specs.Limits.{ReadsCount, ReadsUntil, ReadsBitsOf, ReadsToEnd};
+ghost use Rattle.deku_reading.specs.Limits.{ReadsUnder, AsksAll, EndsItself, MappedBy};
 
 use crate::traits::DekuReader;
 use deku_bits::device::Source;

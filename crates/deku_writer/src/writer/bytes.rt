@@ -4,7 +4,8 @@ ghost use Rattle.std.specs.Prelude.{◌≡◌, ◌<◌, ◌≤◌, length, take,
 ghost use Rattle.deku_stream.specs.declared.ctx.Order.TheVariants.{Msb0};
 ghost use Rattle.deku_stream.specs.Bits.{bits_in};
 ghost use Rattle.deku_device.specs.Devices.{Gave};
-ghost use Rattle.deku_writer.specs.Pushing.{full_bytes, onto_bytes, Fills, Pushed, GaveUp, PushedOnto};
+ghost use Rattle.deku_writer.specs.Pushing.{full_bytes, onto_bytes, Fills, Pushed, GaveUp};
+ghost use Rattle.deku_writer.specs.Pushing.{PushedOnto};
 
 use super::held::Held;
 use super::pushing::give_out;

@@ -2,13 +2,15 @@
 
 #![tactic(auto, using(deku_device::proofs::Wholes::onward_same))]
 
-ghost use Rattle.std.specs.Prelude.{◌≡◌, ◌<◌, ◌≤◌, ◌+◌, ◌-◌, ◌/◌, ◌%◌, Bool, List, false, min, take, drop, slice_index_or, ◌++◌, ◌∷◌, [], length, OnOk, IfErr};
+ghost use Rattle.std.specs.Prelude.{◌≡◌, ◌<◌, ◌≤◌, ◌+◌, ◌-◌, ◌/◌, ◌%◌, Bool, List, false, min};
+ghost use Rattle.std.specs.Prelude.{take, drop, slice_index_or, ◌++◌, ◌∷◌, [], length, OnOk, IfErr};
 ghost use Rattle.std.specs.IoError.{error_kind};
 ghost use Rattle.deku_stream.specs.declared.ctx.Order.TheVariants.{Msb0, Lsb0};
 ghost use Rattle.deku_writer.specs.declared.writer.way.Way.TheVariants.{BytesBackward};
 ghost use Rattle.deku_stream.specs.Bits.{shown};
 ghost use Rattle.deku_device.specs.Devices.{Gave};
-ghost use Rattle.deku_writer.specs.Pushing.{along, full_bytes, onto_bytes, IsFor, Pushed, GaveUp, PushedOnto};
+ghost use Rattle.deku_writer.specs.Pushing.{along, full_bytes, onto_bytes, IsFor, Pushed, GaveUp};
+ghost use Rattle.deku_writer.specs.Pushing.{PushedOnto};
 
 use super::held::Held;
 use super::way::Way;

@@ -1,10 +1,12 @@
 //! Words that are given out through held bits.
 
-ghost use Rattle.std.specs.Prelude.{◌≡◌, ◌↔◌, ◌<◌, ◌≤◌, ◌+◌, ◌*◌, ◌/◌, ◌%◌, ◌^◌, ◌⊎◌, length, take, IsTrue, IsFalse, OnOk, IfErr};
+ghost use Rattle.std.specs.Prelude.{◌≡◌, ◌↔◌, ◌<◌, ◌≤◌, ◌+◌, ◌*◌, ◌/◌, ◌%◌, ◌^◌, ◌⊎◌, length, take};
+ghost use Rattle.std.specs.Prelude.{IsTrue, IsFalse, OnOk, IfErr};
 ghost use Rattle.deku_device.specs.Devices.{Gave};
 ghost use Rattle.deku_stream.specs.Bits.{bits_of, facing, shown};
 ghost use Rattle.deku_stream.specs.Streams.{flow};
-ghost use Rattle.deku_writer.specs.Pushing.{low_bytes, onto_bytes, word_bits, Fills, FillsOnto, GaveUp, PushedOnto};
+ghost use Rattle.deku_writer.specs.Pushing.{low_bytes, onto_bytes, word_bits, Fills, FillsOnto};
+ghost use Rattle.deku_writer.specs.Pushing.{GaveUp, PushedOnto};
 
 use super::held::Held;
 use super::pushing::{give_any, give_out, push_onto};
