@@ -32,20 +32,7 @@ pub fn check<'a>(
     file: File<'a>,
     is_whole: bool,
 ) -> Result<(Module<'a>, Vec<Complaint<'a>>), AllocError> {
-    let alloc = arena.alloc();
-    let mut constants = Vec::new(alloc);
-    for constant in file.constants {
-        constants.push(constant.name.text)?;
-    }
-    let mut checker = Checker {
-        arena,
-        text,
-        is_whole,
-        types: BTreeSet::new(alloc),
-        uses: file.uses,
-        constants,
-        complaints: Vec::new(alloc),
-    };
+    let mut checker = Checker::new(arena, text, file, is_whole)?;
     checker.declare(file.records)?;
     let module = Module {
         docs: file.docs,
@@ -71,6 +58,28 @@ pub(crate) struct Checker<'a> {
 }
 
 impl<'a> Checker<'a> {
+    fn new(
+        arena: &'a Arena,
+        text: &'a str,
+        file: File<'a>,
+        is_whole: bool,
+    ) -> Result<Checker<'a>, AllocError> {
+        let alloc = arena.alloc();
+        let mut constants = Vec::new(alloc);
+        for constant in file.constants {
+            constants.push(constant.name.text)?;
+        }
+        Ok(Checker {
+            arena,
+            text,
+            is_whole,
+            types: BTreeSet::new(alloc),
+            uses: file.uses,
+            constants,
+            complaints: Vec::new(alloc),
+        })
+    }
+
     /// Notes what is wrong.
     pub(crate) fn complain(
         &mut self,
@@ -146,17 +155,7 @@ impl<'a> Checker<'a> {
         let layout = self.layout(&head, unsaid)?;
         let magic = self.magic(&head)?;
         let context = self.context(&head)?;
-        let scope = self.scope(context)?;
-        let form = match body {
-            Body::Fields(fields) => {
-                let shape = fields.shape;
-                Form::Struct(shape, self.fields(fields, layout, scope)?)
-            }
-            Body::Kinds(kinds) => {
-                let ids = self.ids(&head, layout, name)?;
-                Form::Enum(ids, self.cases(kinds, layout, ids, context)?)
-            }
-        };
+        let form = self.form(&record, layout, context)?;
         Ok(Record {
             name,
             docs: head.docs,
@@ -166,6 +165,26 @@ impl<'a> Checker<'a> {
             form,
             is_whole,
         })
+    }
+
+    // What a record holds.
+    fn form(
+        &mut self,
+        record: &syntax::Record<'a>,
+        layout: Layout<'a>,
+        context: Option<Token<'a>>,
+    ) -> Result<Form<'a>, AllocError> {
+        match record.body {
+            Body::Fields(fields) => {
+                let shape = fields.shape;
+                let scope = self.scope(context)?;
+                Ok(Form::Struct(shape, self.fields(fields, layout, scope)?))
+            }
+            Body::Kinds(kinds) => {
+                let ids = self.ids(&record.head, layout, record.name)?;
+                Ok(Form::Enum(ids, self.cases(kinds, layout, ids, context)?))
+            }
+        }
     }
 
     /// Complains of attributes that are not taken there, or said twice.

@@ -10,7 +10,7 @@ use crate::table::Owner;
 use deku_description::formula::{closure, formula};
 use deku_description::syntax;
 use deku_description::syntax::{Closure, Expression, Fields, Head, Shape, Type};
-use deku_tokens::place::Span;
+use deku_tokens::place::{Complaint, Span};
 use deku_tokens::token::Token;
 use std::alloc::AllocError;
 
@@ -60,13 +60,9 @@ impl<'a> Checker<'a> {
         self.head(&head, Owner::Field)?;
         let layout = self.layout(&head, outer)?;
         let bits = self.bits(&head, &kind)?;
-        self.known(&kind)?;
-        self.needs_length(&head, &kind, span)?;
-        self.needs_condition(&head, &kind, span)?;
+        self.suits(&head, &kind, span)?;
         let attributes = self.attributes(&head, name, &kind, scope)?;
-        if let Some(name) = name {
-            self.once(name, scope)?;
-        }
+        self.once(name, scope)?;
         Ok(Field {
             name,
             docs: head.docs,
@@ -79,8 +75,18 @@ impl<'a> Checker<'a> {
         })
     }
 
-    // Adds a field's name to those that may be used, and complains if it is there.
-    fn once(&mut self, name: Token<'a>, scope: &mut Scope<'a>) -> Result<(), AllocError> {
+    // Complains of a type that has no part, and of attributes that do not go with it.
+    fn suits(&mut self, head: &Head<'a>, kind: &Type<'a>, span: Span) -> Result<(), AllocError> {
+        self.known(kind)?;
+        self.needs_length(head, kind, span)?;
+        self.needs_condition(head, kind, span)
+    }
+
+    // Adds a field's name, if it has one, to those that may be used, and complains if it is there.
+    fn once(&mut self, name: Option<Token<'a>>, scope: &mut Scope<'a>) -> Result<(), AllocError> {
+        let Some(name) = name else {
+            return Ok(());
+        };
         if scope.names.contains(&name.text) {
             self.complain(
                 name.span,
@@ -117,42 +123,55 @@ impl<'a> Checker<'a> {
 
     // The width in bits that attributes say as a number.
     fn bits(&mut self, head: &Head<'a>, kind: &Type<'a>) -> Result<Option<u64>, AllocError> {
-        let (attribute, bits) = match (said(head, "bits"), said(head, "bytes")) {
+        let Some((attribute, bits)) = self.width(head)? else {
+            return Ok(None);
+        };
+        match (number_bits(kind), bits) {
+            (None, _) => self.complain(
+                attribute.name.span,
+                "a width of a type that is no number",
+                "leave it out: a record says its own width",
+            )?,
+            (Some(whole), Some(bits)) if bits == 0 || bits > whole => {
+                self.complain_of_width(attribute.name.span, bits, whole)?;
+            }
+            _ => {}
+        }
+        Ok(bits)
+    }
+
+    // Complains of a width that a type of numbers does not hold.
+    fn complain_of_width(&mut self, span: Span, bits: u64, whole: u64) -> Result<(), AllocError> {
+        let message = self.arena.print(format_args!(
+            "a width of {bits} bits for a type of {whole}"
+        ))?;
+        let help = self
+            .arena
+            .print(format_args!("write a width from 1 to {whole} bits"))?;
+        self.complain(span, message, help)
+    }
+
+    /// The attribute that says a width, and its bits, if it says a number.
+    pub(crate) fn width(
+        &mut self,
+        head: &Head<'a>,
+    ) -> Result<Option<(syntax::Attribute<'a>, Option<u64>)>, AllocError> {
+        match (said(head, "bits"), said(head, "bytes")) {
             (Some(_), Some(bytes)) => {
                 self.complain(
                     bytes.name.span,
                     "`bits` and `bytes` together",
                     "leave one of them out",
                 )?;
-                return Ok(None);
+                Ok(None)
             }
-            (Some(bits), None) => (bits, number_in(bits.value)),
+            (Some(bits), None) => Ok(Some((bits, number_in(bits.value)))),
             (None, Some(bytes)) => {
                 let number = number_in(bytes.value);
-                (bytes, number.map(|n| n.saturating_mul(8)))
+                Ok(Some((bytes, number.map(|n| n.saturating_mul(8)))))
             }
-            (None, None) => return Ok(None),
-        };
-        let whole = number_bits(kind);
-        if whole.is_none() {
-            self.complain(
-                attribute.name.span,
-                "a width of a type that is no number",
-                "leave it out: a record says its own width",
-            )?;
+            (None, None) => Ok(None),
         }
-        if let (Some(bits), Some(whole)) = (bits, whole) {
-            if bits == 0 || bits > whole {
-                let message = self.arena.print(format_args!(
-                    "a width of {bits} bits for a type of {whole}"
-                ))?;
-                let help = self
-                    .arena
-                    .print(format_args!("write a width from 1 to {whole} bits"))?;
-                self.complain(attribute.name.span, message, help)?;
-            }
-        }
-        Ok(bits)
     }
 
     // Complains of a type that has no part.
@@ -258,43 +277,33 @@ impl<'a> Checker<'a> {
     ) -> Result<&'a [Attribute<'a>], AllocError> {
         let mut attributes = Vec::new(self.arena.alloc());
         for attribute in head.attributes.iter().take(LIMIT) {
-            let checked = match attribute.name.text {
-                "magic" => match self.magic(head)? {
-                    Some(bytes) => Some(Attribute::Magic(bytes)),
-                    None => None,
-                },
-                "assert" | "assert_eq" => self.checked(*attribute, name, scope)?,
-                "pad_bits_before" | "pad_bytes_before" | "pad_bits_after" | "pad_bytes_after" => {
-                    self.padding(*attribute)?
-                }
-                "ctx" | "temp_value" | "update" | "read_all" | "temp" => plain(*attribute),
-                "until" => self.until(*attribute, kind)?,
-                _ => self.computed(*attribute, scope)?,
-            };
-            if let Some(checked) = checked {
+            if let Some(checked) = self.attribute(*attribute, head, name, kind, scope)? {
                 attributes.push(checked)?;
             }
         }
         self.arena.list(attributes.as_slice())
     }
 
-    // An attribute that computes something.
-    fn computed(
+    // What an attribute says besides the endian, the bit order and a width that is a number.
+    fn attribute(
         &mut self,
         attribute: syntax::Attribute<'a>,
+        head: &Head<'a>,
+        name: Option<Token<'a>>,
+        kind: &Type<'a>,
         scope: &Scope<'a>,
     ) -> Result<Option<Attribute<'a>>, AllocError> {
-        let is_number = number_in(attribute.value).is_some();
-        let made = match attribute.name.text {
-            "bits" if !is_number => self.formula(attribute, scope)?.map(Attribute::Bits),
-            "bytes" if !is_number => self.formula(attribute, scope)?.map(Attribute::Bytes),
-            "count" => self.formula(attribute, scope)?.map(Attribute::Count),
-            "bits_read" => self.formula(attribute, scope)?.map(Attribute::BitsRead),
-            "bytes_read" => self.formula(attribute, scope)?.map(Attribute::BytesRead),
-            "cond" => self.formula(attribute, scope)?.map(Attribute::Cond),
-            _ => None,
-        };
-        Ok(made)
+        match attribute.name.text {
+            "magic" => Ok(self.magic(head)?.map(Attribute::Magic)),
+            "assert" | "assert_eq" => self.checked(attribute, name, scope),
+            "pad_bits_before" | "pad_bytes_before" | "pad_bits_after" | "pad_bytes_after" => {
+                self.padding(attribute)
+            }
+            "ctx" | "temp_value" | "update" | "read_all" | "temp" => Ok(plain(attribute)),
+            "until" => self.until(attribute, kind),
+            _ if is_computed(attribute) => self.computed(attribute, scope),
+            _ => Ok(None),
+        }
     }
 
     // An attribute that checks the field, which it may name.
@@ -309,16 +318,18 @@ impl<'a> Checker<'a> {
         if let Some(name) = name {
             names.push(name.text)?;
         }
-        let scope = Scope {
-            names,
-            is_open: scope.is_open,
-        };
-        let formula = self.formula(attribute, &scope)?;
-        if attribute.name.text == "assert" {
-            Ok(formula.map(Attribute::Assert))
-        } else {
-            Ok(formula.map(Attribute::AssertEq))
-        }
+        let is_open = scope.is_open;
+        self.computed(attribute, &Scope { names, is_open })
+    }
+
+    // An attribute that computes something.
+    fn computed(
+        &mut self,
+        attribute: syntax::Attribute<'a>,
+        scope: &Scope<'a>,
+    ) -> Result<Option<Attribute<'a>>, AllocError> {
+        let formula = self.formula(attribute, scope)?;
+        Ok(formula.map(|it| of_formula(attribute.name.text, it)))
     }
 
     // What an attribute computes. Complains of names that are not known there.
@@ -330,12 +341,9 @@ impl<'a> Checker<'a> {
         let Some(value) = attribute.value else {
             return Ok(None);
         };
-        let expression = match formula(self.arena, self.text, value.token)? {
-            Ok(expression) => expression,
-            Err(complaint) => {
-                self.note(complaint)?;
-                return Ok(None);
-            }
+        let parsed = formula(self.arena, self.text, value.token)?;
+        let Some(expression) = self.noted(parsed)? else {
+            return Ok(None);
         };
         if let Some(name) = foreign_name(&expression, scope) {
             self.complain_of_name(
@@ -356,11 +364,21 @@ impl<'a> Checker<'a> {
         let Some(value) = attribute.value else {
             return Ok(None);
         };
-        match closure(self.arena, self.text, value.token)? {
-            Ok(closure) => {
-                self.closes(&closure, list)?;
-                Ok(Some(Attribute::Until(closure)))
-            }
+        let parsed = closure(self.arena, self.text, value.token)?;
+        let Some(closure) = self.noted(parsed)? else {
+            return Ok(None);
+        };
+        self.closes(&closure, list)?;
+        Ok(Some(Attribute::Until(closure)))
+    }
+
+    // What was parsed, if nothing is wrong with it; notes what is wrong.
+    fn noted<T: Copy>(
+        &mut self,
+        parsed: Result<T, Complaint<'a>>,
+    ) -> Result<Option<T>, AllocError> {
+        match parsed {
+            Ok(it) => Ok(Some(it)),
             Err(complaint) => {
                 self.note(complaint)?;
                 Ok(None)
@@ -423,6 +441,29 @@ impl<'a> Checker<'a> {
             "pad_bits_after" => Attribute::PadAfter(number),
             _ => Attribute::PadAfter(bytes),
         }))
+    }
+}
+
+// Whether an attribute computes something.
+fn is_computed(attribute: syntax::Attribute<'_>) -> bool {
+    match attribute.name.text {
+        "bits" | "bytes" => number_in(attribute.value).is_none(),
+        "count" | "bits_read" | "bytes_read" | "cond" => true,
+        _ => false,
+    }
+}
+
+// The attribute of a name that computes something.
+fn of_formula<'a>(name: &str, formula: Expression<'a>) -> Attribute<'a> {
+    match name {
+        "assert" => Attribute::Assert(formula),
+        "assert_eq" => Attribute::AssertEq(formula),
+        "bits" => Attribute::Bits(formula),
+        "bytes" => Attribute::Bytes(formula),
+        "count" => Attribute::Count(formula),
+        "bits_read" => Attribute::BitsRead(formula),
+        "bytes_read" => Attribute::BytesRead(formula),
+        _ => Attribute::Cond(formula),
     }
 }
 

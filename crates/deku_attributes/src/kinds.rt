@@ -5,7 +5,7 @@ use crate::given::given;
 use crate::model::{Case, Endian, Id, IdSource, Ids, Layout};
 use crate::reading::{bits_of, number_in, pattern_in, said, text_in};
 use crate::table::Owner;
-use deku_description::syntax::{Attribute, Head, Value, Variant};
+use deku_description::syntax::{Head, Value, Variant};
 use deku_tokens::token::Token;
 use std::alloc::AllocError;
 
@@ -21,21 +21,9 @@ impl<'a> Checker<'a> {
         if let Some(attribute) = said(head, "id_endian") {
             layout.endian = self.endian(attribute)?;
         }
-        if let Some(
-            Attribute {
-                value: Some(value),
-                ..
-            },
-        ) = said(head, "id")
-        {
+        if let Some(value) = said(head, "id").and_then(|it| it.value) {
             self.not_in_front(head)?;
-            let context = said(head, "ctx").and_then(|it| it.value);
-            let kind = given(context.map(|it| it.token), value.token).unwrap_or("u64");
-            return Ok(Ids {
-                source: IdSource::Context(value.token),
-                layout,
-                bits: bits_of(kind).unwrap_or(64),
-            });
+            return Ok(given_ids(head, layout, value.token));
         }
         let (kind, whole) = self.id_type(head, name)?;
         let bits = self.id_bits(head, whole)?;
@@ -72,21 +60,8 @@ impl<'a> Checker<'a> {
 
     // The width of an id.
     fn id_bits(&mut self, head: &Head<'a>, whole: u64) -> Result<u64, AllocError> {
-        let (attribute, bits) = match (said(head, "bits"), said(head, "bytes")) {
-            (Some(_), Some(bytes)) => {
-                self.complain(
-                    bytes.name.span,
-                    "`bits` and `bytes` together",
-                    "leave one of them out",
-                )?;
-                return Ok(whole);
-            }
-            (Some(bits), None) => (bits, number_in(bits.value)),
-            (None, Some(bytes)) => {
-                let number = number_in(bytes.value);
-                (bytes, number.map(|n| n.saturating_mul(8)))
-            }
-            (None, None) => return Ok(whole),
+        let Some((attribute, bits)) = self.width(head)? else {
+            return Ok(whole);
         };
         match bits {
             Some(bits) if 0 < bits && bits <= whole => Ok(bits),
@@ -238,6 +213,17 @@ impl<'a> Checker<'a> {
             }
         }
         Ok(())
+    }
+}
+
+// How an id that a value of the context gives is laid out.
+fn given_ids<'a>(head: &Head<'a>, layout: Layout<'a>, id: Token<'a>) -> Ids<'a> {
+    let context = said(head, "ctx").and_then(|it| it.value);
+    let kind = given(context.map(|it| it.token), id).unwrap_or("u64");
+    Ids {
+        source: IdSource::Context(id),
+        layout,
+        bits: bits_of(kind).unwrap_or(64),
     }
 }
 

@@ -18,6 +18,7 @@ use deku_markers::whole::Whole;
 use deku_texts::document::Text;
 use deku_texts::records::Records;
 use deku_texts::refusal::Stop;
+use deku_texts::template::fill;
 use deku_texts::words;
 use deku_texts::wrapping::{item, number_kind};
 use deku_tokens::arena::Arena;
@@ -99,15 +100,7 @@ impl<'b, 'a> Builder<'b, 'a> {
     pub fn fields(&mut self, fields: &[Field<'a>], skipped: usize) -> Result<(), AllocError> {
         self.updates(fields)?;
         for (i, field) in fields.iter().enumerate().skip(skipped) {
-            let name = field_name(self.arena, field, i)?;
-            let named = Named {
-                name,
-                access: match field.name {
-                    Some(_) => name,
-                    None => self.arena.print(format_args!("{i}"))?,
-                },
-                owner: self.owner,
-            };
+            let named = self.called(field, i)?;
             let is_built = field.is_sound && self.tried(field, named)?;
             if !is_built {
                 self.leaf(field, named)?;
@@ -117,6 +110,20 @@ impl<'b, 'a> Builder<'b, 'a> {
             Some(last) => self.ended(last),
             None => Ok(()),
         }
+    }
+
+    // What the field at this place is called.
+    fn called(&self, field: &Field<'a>, place: usize) -> Result<Named<'a>, AllocError> {
+        let name = field_name(self.arena, field, place)?;
+        let access = match field.name {
+            Some(_) => name,
+            None => self.arena.print(format_args!("{place}"))?,
+        };
+        Ok(Named {
+            name,
+            access,
+            owner: self.owner,
+        })
     }
 
     // Complains of what is wrong after the last field.
@@ -197,21 +204,37 @@ impl<'b, 'a> Builder<'b, 'a> {
         let said = Said::of(field);
         self.fits(field, &said)?;
         self.padding(said.before, field)?;
-        if let Some(bytes) = said.magic {
-            let what = self.arena.print(format_args!("magic of {name}"))?;
-            let named = words::marker(self.arena, self.front, name, "Magic")?;
-            self.magic(bytes, named, what, field.layout.order, field.span)?;
-        }
+        self.magic_of(field, name, said.magic)?;
         self.part(field, called, &said)?;
-        if self.last.is_some() && said.after > 0 {
+        self.check_field(field, name, &said)?;
+        self.padding_after(said.after, field)
+    }
+
+    // The bytes in front of a field that are always the same.
+    fn magic_of(
+        &mut self,
+        field: &Field<'a>,
+        name: &str,
+        magic: Option<&[u8]>,
+    ) -> Result<(), Stop<'a>> {
+        let Some(bytes) = magic else {
+            return Ok(());
+        };
+        let what = self.arena.print(format_args!("magic of {name}"))?;
+        let named = words::marker(self.arena, self.front, name, "Magic")?;
+        self.magic(bytes, named, what, field.layout.order, field.span)
+    }
+
+    // The padding after a field.
+    fn padding_after(&mut self, bits: u64, field: &Field<'a>) -> Result<(), Stop<'a>> {
+        if self.last.is_some() && bits > 0 {
             return Stop::wrong(
                 field.span,
                 "padding after a list up to the end of the input",
                 "leave it out",
             );
         }
-        self.check_field(field, name, &said)?;
-        self.padding(said.after, field)
+        self.padding(bits, field)
     }
 
     // The part of a field without its magic, its padding and its checks.
@@ -456,17 +479,21 @@ impl<'b, 'a> Builder<'b, 'a> {
             return Ok(name);
         }
         let name = words::marker(self.arena, self.front, field, word)?;
-        self.markers.push_str("\ntype ")?;
-        self.markers.push_str(name)?;
-        self.markers
-            .push_str(if word == "Lent" { "<'a> = " } else { " = " })?;
-        kind.print(&mut self.markers, 0, 1, false)?;
-        self.markers.push_str(";\n")?;
         self.names.push(name)?;
-        if word == "Lent" {
-            return self.arena.print(format_args!("{name}<'a>"));
+        if word != "Lent" {
+            self.declare(name, kind)?;
+            return Ok(name);
         }
-        Ok(name)
+        let lent = self.arena.print(format_args!("{name}<'a>"))?;
+        self.declare(lent, kind)?;
+        Ok(lent)
+    }
+
+    // Appends an alias.
+    fn declare(&mut self, name: &str, kind: Text<'a>) -> Result<(), AllocError> {
+        fill(&mut self.markers, "\ntype $name$ = ", &[("name", name)])?;
+        kind.print(&mut self.markers, 0, 1, false)?;
+        self.markers.push_str(";\n")
     }
 
     /// The names of the types of a head and of what is written for it.
@@ -536,14 +563,7 @@ impl<'b, 'a> Builder<'b, 'a> {
         (form, unit): (Dependent, u64),
     ) -> Result<(), Stop<'a>> {
         let mut computer = Computer::new(self.arena, places, self.constants);
-        let mut computed = computer.value(expression)?;
-        if !computed.is_number() {
-            return Stop::wrong(span, "a count that is no number", "write a number");
-        }
-        if unit > 1 {
-            let unit = computer.number(unit)?;
-            computed = computer.both(Operator::Times, computed, unit, span)?;
-        }
+        let computed = counted(&mut computer, expression, unit, span)?;
         let amount = match form {
             Dependent::Filled => Amount::Bits,
             Dependent::Counted | Dependent::Optional => Amount::Items,
@@ -561,8 +581,7 @@ impl<'b, 'a> Builder<'b, 'a> {
         span: Span,
     ) -> Result<(), Stop<'a>> {
         let mut computer = Computer::new(self.arena, places, self.constants);
-        let computed = computer.value(expression)?;
-        is_truth(computed, computer.guards.is_empty(), span)?;
+        let computed = condition(&mut computer, expression, span)?;
         marker::condition(&mut self.markers, marker, &computer, computed)?;
         Ok(())
     }
@@ -579,13 +598,10 @@ impl<'b, 'a> Builder<'b, 'a> {
     ) -> Result<(), Stop<'a>> {
         let mut computer = Computer::new(self.arena, places, self.constants);
         let computed = if is_equal {
-            let left = computer.name(marker.field, span)?;
-            let right = computer.value(expression)?;
-            computer.both(Operator::Equal, left, right, span)?
+            equal(&mut computer, marker.field, expression, span)?
         } else {
-            computer.value(expression)?
+            condition(&mut computer, expression, span)?
         };
-        is_truth(computed, computer.guards.is_empty(), span)?;
         marker::check(&mut self.markers, marker, &computer, computed)?;
         Ok(())
     }
@@ -638,12 +654,53 @@ fn no_count<'a, T>(field: &Field<'a>) -> Result<T, Stop<'a>> {
     )
 }
 
-/// Complains of a condition that is a number, or that may have no value.
-pub(crate) fn is_truth<'a>(
-    computed: Computed<'a>,
-    is_whole: bool,
+// What a count computes, or a size in units of so many bits.
+fn counted<'a>(
+    computer: &mut Computer<'_, 'a>,
+    expression: &Expression<'a>,
+    unit: u64,
     span: Span,
-) -> Result<(), Stop<'a>> {
+) -> Result<Computed<'a>, Stop<'a>> {
+    let computed = computer.value(expression)?;
+    if !computed.is_number() {
+        return Stop::wrong(span, "a count that is no number", "write a number");
+    }
+    if unit <= 1 {
+        return Ok(computed);
+    }
+    let unit = computer.number(unit)?;
+    computer.both(Operator::Times, computed, unit, span)
+}
+
+/// What a condition computes.
+pub(crate) fn condition<'a>(
+    computer: &mut Computer<'_, 'a>,
+    expression: &Expression<'a>,
+    span: Span,
+) -> Result<Computed<'a>, Stop<'a>> {
+    let computed = computer.value(expression)?;
+    truth(computer, computed, span)
+}
+
+// What the condition computes that a field of this name is what is computed.
+fn equal<'a>(
+    computer: &mut Computer<'_, 'a>,
+    field: &str,
+    expression: &Expression<'a>,
+    span: Span,
+) -> Result<Computed<'a>, Stop<'a>> {
+    let left = computer.name(field, span)?;
+    let right = computer.value(expression)?;
+    let computed = computer.both(Operator::Equal, left, right, span)?;
+    truth(computer, computed, span)
+}
+
+// Complains of a condition that is a number, or that may have no value.
+fn truth<'a>(
+    computer: &Computer<'_, 'a>,
+    computed: Computed<'a>,
+    span: Span,
+) -> Result<Computed<'a>, Stop<'a>> {
     if computed.is_number() {
         return Stop::wrong(
             span,
@@ -651,8 +708,8 @@ pub(crate) fn is_truth<'a>(
             "compare it with another number",
         );
     }
-    if is_whole {
-        return Ok(());
+    if computer.guards.is_empty() {
+        return Ok(computed);
     }
     Stop::wrong(
         span,

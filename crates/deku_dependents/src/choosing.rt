@@ -63,11 +63,15 @@ impl<'b, 'a> Builder<'b, 'a> {
             return Ok(());
         };
         let id = self.id_of(context, wanted)?;
-        let expression = Expression::Name(id);
-        let mut head = self.head(&expression, false)?;
+        self.chosen(id, called, kind.text)
+    }
+
+    // An enum of this type, of the kind that the field of this name says.
+    fn chosen(&mut self, id: Token<'a>, called: Named<'a>, kind: &'a str) -> Result<(), Stop<'a>> {
+        let mut head = self.head(&Expression::Name(id), false)?;
         let marker = self.marked(&mut head, called.name, "Id")?;
         self.says(head.fields.places, marker, id)?;
-        let part = chosen(self.arena, head, called, (marker.name, kind.text))?;
+        let part = chosen(self.arena, head, called, (marker.name, kind))?;
         Ok(self.push(part, marker)?)
     }
 

@@ -8,6 +8,7 @@ use deku_markers::part::constant;
 use deku_texts::refusal::Stop;
 use deku_texts::words;
 use deku_tokens::place::Span;
+use std::alloc::AllocError;
 
 // How many bits of padding there are at most.
 const PADDING: u64 = 1024;
@@ -30,17 +31,20 @@ impl<'b, 'a> Builder<'b, 'a> {
             }
             let width = left.min(64);
             left = left.saturating_sub(width);
-            let kind = match order {
-                Order::Msb => self.arena.print(format_args!("Msb<u64, {width}>"))?,
-                Order::Lsb => self.arena.print(format_args!("Lsb<u64, {width}>"))?,
-            };
-            let marker = match order {
-                Order::Msb => "Zeros",
-                Order::Lsb => "LowZeros",
-            };
-            let part = constant(self.arena, self.owner, kind, marker, "padding")?;
-            self.items.push(part)?;
+            self.zeros(width, order)?;
         }
+        Ok(())
+    }
+
+    // At most 64 zeros.
+    fn zeros(&mut self, width: u64, order: Order) -> Result<(), AllocError> {
+        let (name, marker) = match order {
+            Order::Msb => ("Msb", "Zeros"),
+            Order::Lsb => ("Lsb", "LowZeros"),
+        };
+        let kind = self.arena.print(format_args!("{name}<u64, {width}>"))?;
+        let part = constant(self.arena, self.owner, kind, marker, "padding")?;
+        self.items.push(part)?;
         Ok(())
     }
 
@@ -60,20 +64,28 @@ impl<'b, 'a> Builder<'b, 'a> {
                 "write the first 8 of them, and an array of `u8` with `assert` after them",
             );
         }
-        let number = number_of(bytes);
-        let count = bytes.len();
-        let (constructor, kind) = magic_kind(self.arena, count, order)?;
-        let value = self.arena.print(format_args!("0x{number:X}"))?;
+        Ok(self.bytes(bytes, name, what, order)?)
+    }
+
+    // At most eight bytes.
+    fn bytes(
+        &mut self,
+        bytes: &[u8],
+        name: &'a str,
+        what: &'a str,
+        order: Order,
+    ) -> Result<(), AllocError> {
+        let (constructor, kind) = magic_kind(self.arena, bytes.len(), order)?;
         let marker = Marker {
             name,
             parts: kind,
             lent: None,
             field: what,
         };
+        let number = number_of(bytes);
+        let value = self.arena.print(format_args!("0x{number:X}"))?;
         marker::constant(&mut self.markers, marker, constructor, value)?;
         let part = constant(self.arena, self.owner, kind, name, "magic")?;
-        self.items.push(part)?;
-        self.names.push(name)?;
-        Ok(())
+        self.push(part, marker)
     }
 }

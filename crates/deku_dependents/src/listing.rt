@@ -1,6 +1,6 @@
 //! Lists that say by themselves where they end.
 
-use crate::building::{Builder, held_kind, is_truth};
+use crate::building::{Builder, condition, held_kind};
 use deku_attributes::model::Field;
 use deku_description::syntax::{Closure, Type};
 use deku_markers::computing::Computer;
@@ -64,6 +64,22 @@ fn list_texts<'a>(
         value: list_value(arena, called, open, marker)?,
         term: list_term(arena, called, marker)?,
     })
+}
+
+// The part of a list up to the item that this type says is the last.
+fn until_part<'a>(
+    arena: &'a Arena,
+    called: Named<'a>,
+    last: Marker<'a>,
+) -> Result<Part<'a>, AllocError> {
+    let named = last.name;
+    let form = Listed {
+        part: "Until",
+        types: [last.parts, named],
+        open: arena.print(format_args!("UntilRef::<_, {named}> {{"))?,
+        marker: "last",
+    };
+    list_part(arena, called, form)
 }
 
 // Its type.
@@ -136,22 +152,14 @@ impl<'b, 'a> Builder<'b, 'a> {
                 "give it another name",
             );
         }
-        let item = held_kind(self.arena, field)?;
-        let named = words::marker(self.arena, self.front, called.name, "Last")?;
         let marker = Marker {
-            name: named,
-            parts: item,
+            name: words::marker(self.arena, self.front, called.name, "Last")?,
+            parts: held_kind(self.arena, field)?,
             lent: None,
             field: called.name,
         };
         self.ends(field, end, marker)?;
-        let form = Listed {
-            part: "Until",
-            types: [item, named],
-            open: self.arena.print(format_args!("UntilRef::<_, {named}> {{"))?,
-            marker: "last",
-        };
-        let part = list_part(self.arena, called, form)?;
+        let part = until_part(self.arena, called, marker)?;
         Ok(self.push(part, marker)?)
     }
 
@@ -168,8 +176,7 @@ impl<'b, 'a> Builder<'b, 'a> {
         if is_struct {
             computer.owner = Some(end.name.text);
         }
-        let computed = computer.value(&end.last)?;
-        is_truth(computed, computer.guards.is_empty(), field.span)?;
+        let computed = condition(&mut computer, &end.last, field.span)?;
         marker::last(&mut self.markers, marker, &computer, computed)?;
         Ok(())
     }

@@ -3,7 +3,7 @@
 use crate::building::Builder;
 use deku_attributes::model::{Field, Order};
 use deku_description::syntax::Expression;
-use deku_markers::computing::Computer;
+use deku_markers::computing::{Computed, Computer};
 use deku_markers::marker;
 use deku_markers::marker::{Marker, Under, Unit};
 use deku_markers::part::{Named, Place, under};
@@ -27,17 +27,27 @@ impl<'b, 'a> Builder<'b, 'a> {
                 "write a number",
             );
         }
-        let under_this = Under {
+        let form = Under {
             is_big: is_big(field),
             is_low_first: field.layout.order == Order::Lsb,
             unit,
         };
+        self.under(field, called, width, form)
+    }
+
+    // A number in this form, of the width that a field in front says.
+    fn under(
+        &mut self,
+        field: &Field<'a>,
+        called: Named<'a>,
+        width: &Expression<'a>,
+        form: Under,
+    ) -> Result<(), Stop<'a>> {
         let mut head = self.head(width, false)?;
         let marker = self.marked(&mut head, called.name, "Width")?;
-        let places = head.fields.places;
-        self.measures(places, marker, width, under_this, field.span)?;
+        self.measures(head.fields.places, marker, width, form, field.span)?;
         let number = number_kind(field).unwrap_or("u8");
-        let types = (marker.name, number, under_this.kind());
+        let types = (marker.name, number, form.kind());
         let part = under(self.arena, head, called, types)?;
         Ok(self.push(part, marker)?)
     }
@@ -48,19 +58,29 @@ impl<'b, 'a> Builder<'b, 'a> {
         places: &'a [Place<'a>],
         marker: Marker<'a>,
         width: &Expression<'a>,
-        under_this: Under,
+        form: Under,
         span: Span,
     ) -> Result<(), Stop<'a>> {
         let mut computer = Computer::new(self.arena, places, self.constants);
-        let computed = computer.value(width)?;
-        if !computed.is_number() || !computer.guards.is_empty() || computer.used.len() != 1 {
-            return Stop::wrong(
-                span,
-                "a width that is not one field",
-                "write `bits = \"*FIELD\"`, with the field in front that says it",
-            );
-        }
-        marker::context(&mut self.markers, under_this, marker, &computer, computed)?;
+        let computed = measured(&mut computer, width, span)?;
+        marker::context(&mut self.markers, form, marker, &computer, computed)?;
         Ok(())
     }
+}
+
+// What a width computes, which is a field.
+fn measured<'a>(
+    computer: &mut Computer<'_, 'a>,
+    width: &Expression<'a>,
+    span: Span,
+) -> Result<Computed<'a>, Stop<'a>> {
+    let computed = computer.value(width)?;
+    if computed.is_number() && computer.guards.is_empty() && computer.used.len() == 1 {
+        return Ok(computed);
+    }
+    Stop::wrong(
+        span,
+        "a width that is not one field",
+        "write `bits = \"*FIELD\"`, with the field in front that says it",
+    )
 }

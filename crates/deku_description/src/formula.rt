@@ -183,27 +183,33 @@ impl<'a> Parser<'a> {
         Ok(true)
     }
 
-    // A value, with what is in front of it and as what type.
+    // A value, with what is in front of it and the types that follow it.
     #[cycle(expression)]
     fn operand(&mut self, depth: usize) -> Result<Expression<'a>, Stop<'a>> {
-        self.value = if self.cursor.take_mark("(") {
-            let value = self.expression(depth, 1)?;
-            self.cursor.mark(")")?;
-            value
-        } else if self.cursor.take_mark("!") {
-            let value = self.expression(depth, 10)?;
-            Expression::Not(self.cursor.arena().one(value)?)
-        } else if self.cursor.take_mark("*") || self.cursor.take_mark("&") {
-            self.expression(depth, 10)?
-        } else {
-            self.simple()?
-        };
+        self.value = self.prefixed(depth)?;
         for _ in 0..self.cursor.left() {
             if !self.cast()? {
                 break;
             }
         }
         Ok(self.value)
+    }
+
+    // A value, with what is in front of it.
+    #[cycle(expression)]
+    fn prefixed(&mut self, depth: usize) -> Result<Expression<'a>, Stop<'a>> {
+        if self.cursor.take_mark("(") {
+            let value = self.expression(depth, 1)?;
+            self.cursor.mark(")")?;
+            Ok(value)
+        } else if self.cursor.take_mark("!") {
+            let value = self.expression(depth, 10)?;
+            Ok(Expression::Not(self.cursor.arena().one(value)?))
+        } else if self.cursor.take_mark("*") || self.cursor.take_mark("&") {
+            self.expression(depth, 10)
+        } else {
+            self.simple()
+        }
     }
 
     // Makes the value another type, if one follows it. Whether one does.

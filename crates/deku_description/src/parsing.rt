@@ -35,25 +35,35 @@ pub fn parse<'a>(
     text: &'a str,
 ) -> Result<(File<'a>, Vec<Complaint<'a>>), AllocError> {
     let alloc = arena.alloc();
-    let end = Span {
-        start: text.len(),
-        end: text.len(),
-    };
     let whole = Span {
         start: 0,
         end: text.len(),
     };
     let tokens = arena.list(tokens(alloc, text, whole)?.as_slice())?;
     let complaints = broken_tokens(alloc, tokens)?;
-    if !complaints.is_empty() {
-        let nothing = File {
-            docs: &[],
-            uses: &[],
-            constants: &[],
-            records: &[],
-        };
-        return Ok((nothing, complaints));
+    if complaints.is_empty() {
+        return parsed(arena, text, tokens);
     }
+    let nothing = File {
+        docs: &[],
+        uses: &[],
+        constants: &[],
+        records: &[],
+    };
+    Ok((nothing, complaints))
+}
+
+// The description that the tokens of a text are.
+fn parsed<'a>(
+    arena: &'a Arena,
+    text: &'a str,
+    tokens: &'a [Token<'a>],
+) -> Result<(File<'a>, Vec<Complaint<'a>>), AllocError> {
+    let end = Span {
+        start: text.len(),
+        end: text.len(),
+    };
+    let alloc = arena.alloc();
     let mut parser = Parser {
         text,
         cursor: Cursor::new(arena, tokens, end),
@@ -61,7 +71,7 @@ pub fn parse<'a>(
         uses: Vec::new(alloc),
         constants: Vec::new(alloc),
         records: Vec::new(alloc),
-        complaints,
+        complaints: Vec::new(alloc),
     };
     let file = parser.file()?;
     let Parser { complaints, .. } = parser;
@@ -82,6 +92,18 @@ struct Parser<'a> {
 
 impl<'a> Parser<'a> {
     fn file(&mut self) -> Result<File<'a>, AllocError> {
+        self.items()?;
+        let arena = self.cursor.arena();
+        Ok(File {
+            docs: arena.list(self.docs.as_slice())?,
+            uses: arena.list(self.uses.as_slice())?,
+            constants: arena.list(self.constants.as_slice())?,
+            records: arena.list(self.records.as_slice())?,
+        })
+    }
+
+    // All items, which are kept.
+    fn items(&mut self) -> Result<(), AllocError> {
         for _ in 0..self.cursor.left() {
             if self.cursor.peek().is_none() {
                 break;
@@ -91,13 +113,7 @@ impl<'a> Parser<'a> {
                 self.skip_item();
             }
         }
-        let arena = self.cursor.arena();
-        Ok(File {
-            docs: arena.list(self.docs.as_slice())?,
-            uses: arena.list(self.uses.as_slice())?,
-            constants: arena.list(self.constants.as_slice())?,
-            records: arena.list(self.records.as_slice())?,
-        })
+        Ok(())
     }
 
     // What was parsed, or `None` after its complaint is noted.
@@ -136,23 +152,19 @@ impl<'a> Parser<'a> {
         let head = self.head()?;
         self.visibility();
         if self.cursor.take_name("use") {
-            let path = self.path()?;
-            self.uses.push(path)?;
+            self.path()
         } else if self.cursor.take_name("const") {
-            let constant = self.constant()?;
-            self.constants.push(constant)?;
+            self.constant()
         } else if self.cursor.take_name("struct") {
-            let record = self.structure(head)?;
-            self.records.push(record)?;
+            self.structure(head)
         } else if self.cursor.take_name("enum") {
-            let record = self.enumeration(head)?;
-            self.records.push(record)?;
+            self.enumeration(head)
         } else if self.is_other_item() {
             self.skip_item();
+            Ok(())
         } else {
-            return self.cursor.expected("`use`, `const`, `struct` or `enum`");
+            self.cursor.expected("`use`, `const`, `struct` or `enum`")
         }
-        Ok(())
     }
 
     // Whether an item or a statement of Rust is next that describes nothing.
@@ -164,20 +176,21 @@ impl<'a> Parser<'a> {
         is_macro || OTHERS.iter().any(|word| self.cursor.is_name(word))
     }
 
-    // The text up to a semicolon.
-    fn path(&mut self) -> Result<&'a str, Stop<'a>> {
+    // The path of a `use`: the text up to a semicolon.
+    fn path(&mut self) -> Result<(), Stop<'a>> {
         let start = self.cursor.here().start;
         for _ in 0..self.cursor.left() {
             let end = self.cursor.here().start;
             if self.cursor.take_mark(";") {
-                return Ok(self.text.get(start..end).unwrap_or(""));
+                self.uses.push(self.text.get(start..end).unwrap_or(""))?;
+                return Ok(());
             }
             self.cursor.next();
         }
         self.cursor.expected("`;`")
     }
 
-    fn constant(&mut self) -> Result<Constant<'a>, Stop<'a>> {
+    fn constant(&mut self) -> Result<(), Stop<'a>> {
         let name = self.cursor.token(Kind::Name, "a name")?;
         self.cursor.mark(":")?;
         let kind = self.cursor.token(Kind::Name, "a type of numbers")?;
@@ -185,7 +198,8 @@ impl<'a> Parser<'a> {
         let token = self.cursor.token(Kind::Integer, "a whole number")?;
         self.cursor.mark(";")?;
         let value = number(token)?;
-        Ok(Constant { name, kind, value })
+        self.constants.push(Constant { name, kind, value })?;
+        Ok(())
     }
 
     // `pub`, with or without where.
@@ -200,20 +214,30 @@ impl<'a> Parser<'a> {
         let arena = self.cursor.arena();
         let mut docs = Vec::new(arena.alloc());
         let mut attributes = Vec::new(arena.alloc());
+        self.list_head(&mut docs, &mut attributes)?;
+        Ok(Head {
+            docs: arena.list(docs.as_slice())?,
+            attributes: arena.list(attributes.as_slice())?,
+        })
+    }
+
+    // Adds the lines of comments, and what attributes say.
+    fn list_head(
+        &mut self,
+        docs: &mut Vec<&'a str>,
+        attributes: &mut Vec<Attribute<'a>>,
+    ) -> Result<(), Stop<'a>> {
         for _ in 0..self.cursor.left() {
             match self.cursor.peek() {
                 Some(token) if token.kind == Kind::Doc => {
                     self.cursor.next();
                     docs.push(after(token.text, "///"))?;
                 }
-                Some(token) if token.is_mark("#") => self.attribute(&mut attributes)?,
+                Some(token) if token.is_mark("#") => self.attribute(attributes)?,
                 _ => break,
             }
         }
-        Ok(Head {
-            docs: arena.list(docs.as_slice())?,
-            attributes: arena.list(attributes.as_slice())?,
-        })
+        Ok(())
     }
 
     // An attribute, which says something if it is deku's.
@@ -267,27 +291,50 @@ impl<'a> Parser<'a> {
         }
     }
 
-    fn structure(&mut self, head: Head<'a>) -> Result<Record<'a>, Stop<'a>> {
+    fn structure(&mut self, head: Head<'a>) -> Result<(), Stop<'a>> {
         let before = self.complaints.len();
         let name = self.record_name()?;
         let fields = self.fields()?;
         if fields.shape != Shape::Named {
             self.cursor.mark(";")?;
         }
-        Ok(Record {
-            head,
-            name,
-            body: Body::Fields(fields),
-            is_whole: self.complaints.len() == before,
-        })
+        self.record(head, name, Body::Fields(fields), before)
     }
 
-    fn enumeration(&mut self, head: Head<'a>) -> Result<Record<'a>, Stop<'a>> {
+    fn enumeration(&mut self, head: Head<'a>) -> Result<(), Stop<'a>> {
         let before = self.complaints.len();
         let name = self.record_name()?;
         self.cursor.mark("{")?;
+        let kinds = self.kind_list()?;
+        self.record(head, name, Body::Kinds(kinds), before)
+    }
+
+    // Adds a record, before which there were so many complaints.
+    fn record(
+        &mut self,
+        head: Head<'a>,
+        name: Token<'a>,
+        body: Body<'a>,
+        before: usize,
+    ) -> Result<(), Stop<'a>> {
+        self.records.push(Record {
+            head,
+            name,
+            body,
+            is_whole: self.complaints.len() == before,
+        })?;
+        Ok(())
+    }
+
+    fn kind_list(&mut self) -> Result<&'a [Variant<'a>], Stop<'a>> {
         let arena = self.cursor.arena();
         let mut kinds = Vec::new(arena.alloc());
+        self.list_kinds(&mut kinds)?;
+        Ok(arena.list(kinds.as_slice())?)
+    }
+
+    // Adds the kinds up to a brace.
+    fn list_kinds(&mut self, kinds: &mut Vec<Variant<'a>>) -> Result<(), Stop<'a>> {
         for _ in 0..self.cursor.left() {
             if self.cursor.take_mark("}") {
                 break;
@@ -298,16 +345,10 @@ impl<'a> Parser<'a> {
                 None => self.skip_part("}"),
             }
             if !self.cursor.take_mark(",") {
-                self.cursor.mark("}")?;
-                break;
+                return self.cursor.mark("}");
             }
         }
-        Ok(Record {
-            head,
-            name,
-            body: Body::Kinds(arena.list(kinds.as_slice())?),
-            is_whole: self.complaints.len() == before,
-        })
+        Ok(())
     }
 
     // The name of a record, which takes no types or lifetimes.

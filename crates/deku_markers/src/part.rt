@@ -185,6 +185,13 @@ impl<'a> Fields<'a> {
         })
     }
 
+    // They in the part at this place of a tuple of so many.
+    fn nth(self, arena: &'a Arena, place: usize, count: usize) -> Result<Fields<'a>, AllocError> {
+        let path = arena.print(format_args!(".{place}"))?;
+        let same = equation(arena, place, count)?;
+        self.within(arena, path, same)
+    }
+
     // They in a head, and after it a field at this path.
     pub(crate) fn followed(
         self,
@@ -310,24 +317,40 @@ pub(crate) fn items_of<'a>(
     if rows.len() <= GROUP {
         return Ok(rows);
     }
+    in_groups(arena, rows.as_slice())
+}
+
+// The rows, in tuples of as many as one may have. A row that names several lifetimes stays alone.
+fn in_groups<'a>(arena: &'a Arena, rows: &[Part<'a>]) -> Result<Vec<Part<'a>>, AllocError> {
     let mut items = Vec::new(arena.alloc());
     let mut group = Vec::new(arena.alloc());
     for row in rows {
         let is_alone = row.lifetimes > 1;
-        if (is_alone && !group.is_empty()) || group.len() == GROUP {
-            items.push(one_tuple(arena, group.as_slice())?)?;
-            group.clear();
+        if is_alone || group.len() == GROUP {
+            end_row(arena, &mut items, &mut group)?;
         }
         if is_alone {
-            items.push(row)?;
+            items.push(*row)?;
         } else {
-            group.push(row)?;
+            group.push(*row)?;
         }
     }
-    if !group.is_empty() {
-        items.push(one_tuple(arena, group.as_slice())?)?;
-    }
+    end_row(arena, &mut items, &mut group)?;
     Ok(items)
+}
+
+// Adds the tuple of the parts of a row to others, and empties the row. Nothing is added for none.
+fn end_row<'a>(
+    arena: &'a Arena,
+    others: &mut Vec<Part<'a>>,
+    row: &mut Vec<Part<'a>>,
+) -> Result<(), AllocError> {
+    if row.is_empty() {
+        return Ok(());
+    }
+    others.push(one_tuple(arena, row.as_slice())?)?;
+    row.clear();
+    Ok(())
 }
 
 // The parts, with a tuple for numbers in a row.
@@ -336,12 +359,11 @@ fn in_rows<'a>(arena: &'a Arena, parts: &[Part<'a>]) -> Result<Vec<Part<'a>>, Al
     let mut row = Vec::new(arena.alloc());
     for part in parts {
         if !has_room(row.as_slice(), part) {
-            rows.push(one_tuple(arena, row.as_slice())?)?;
-            row.clear();
+            end_row(arena, &mut rows, &mut row)?;
         }
         row.push(*part)?;
     }
-    rows.push(one_tuple(arena, row.as_slice())?)?;
+    end_row(arena, &mut rows, &mut row)?;
     Ok(rows)
 }
 
@@ -419,9 +441,7 @@ fn tupled_fields<'a>(arena: &'a Arena, parts: &[Part<'a>]) -> Result<Fields<'a>,
     let mut places = Vec::new(arena.alloc());
     let mut names = Vec::new(arena.alloc());
     for (place, part) in parts.iter().enumerate() {
-        let path = arena.print(format_args!(".{place}"))?;
-        let same = equation(arena, place, parts.len())?;
-        let fields = part.fields.within(arena, path, same)?;
+        let fields = part.fields.nth(arena, place, parts.len())?;
         places.extend_from_slice(fields.places)?;
         names.extend_from_slice(fields.names)?;
     }

@@ -127,22 +127,33 @@ pub fn told(
 ) -> Result<String, AllocError> {
     let mut out = String::new(alloc);
     for complaint in complaints.iter().take(SHOWN) {
-        let place = place_of(text, complaint.span.start);
-        let line = place.line;
-        let column = place.column;
-        let message = complaint.message;
-        writeln!(out, "{file}:{line}:{column}: error: {message}")?;
-        quote(&mut out, text, complaint.span.start)?;
-        let help = complaint.help;
-        if !help.is_empty() {
-            writeln!(out, "help: {help}")?;
-        }
+        tell(&mut out, file, text, *complaint)?;
     }
     if complaints.len() > SHOWN {
         let more = complaints.len() - SHOWN;
         writeln!(out, "{more} more errors are not shown")?;
     }
     Ok(out)
+}
+
+// Appends a complaint.
+fn tell(
+    out: &mut String,
+    file: &str,
+    text: &str,
+    complaint: Complaint<'_>,
+) -> Result<(), AllocError> {
+    let place = place_of(text, complaint.span.start);
+    let line = place.line;
+    let column = place.column;
+    let message = complaint.message;
+    writeln!(out, "{file}:{line}:{column}: error: {message}")?;
+    quote(out, text, complaint.span.start)?;
+    let help = complaint.help;
+    if !help.is_empty() {
+        writeln!(out, "help: {help}")?;
+    }
+    Ok(())
 }
 
 // Appends the line of an offset, and a caret under its character.
