@@ -8,13 +8,13 @@ use deku_attributes::model::{Attribute, Endian, Field};
 use deku_attributes::reading::{bits_of, is_name, literal, names};
 use deku_description::syntax::{Closure, Constant, Expression, Operator, Type};
 use deku_markers::computing::{Computed, Computer};
-use deku_markers::following::Dependent;
 use deku_markers::marker;
 use deku_markers::marker::{Amount, Marker};
-use deku_markers::part::{
+use deku_record_parts::following::Dependent;
+use deku_record_parts::part::{
     Named, Owner, Part, Place, asserted, following, leaf, lifetimes_of, rest, tuple,
 };
-use deku_markers::whole::Whole;
+use deku_record_parts::whole::Whole;
 use deku_texts::document::Text;
 use deku_texts::records::Records;
 use deku_texts::refusal::Stop;

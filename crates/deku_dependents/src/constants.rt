@@ -4,7 +4,7 @@ use crate::building::Builder;
 use deku_attributes::model::{Field, Order};
 use deku_markers::marker;
 use deku_markers::marker::{Marker, magic_kind, number_of};
-use deku_markers::part::constant;
+use deku_record_parts::part::constant;
 use deku_texts::refusal::Stop;
 use deku_texts::words;
 use deku_tokens::place::Span;

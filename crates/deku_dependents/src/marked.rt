@@ -2,7 +2,7 @@
 
 use crate::building::Builder;
 use deku_markers::marker::Marker;
-use deku_markers::part::Part;
+use deku_record_parts::part::Part;
 use deku_texts::words;
 use std::alloc::AllocError;
 

@@ -3,7 +3,7 @@
 use crate::listing::{Listed, list_part};
 use deku_attributes::model::{Attribute, Endian, Field, Order};
 use deku_attributes::reading::bits_of;
-use deku_markers::part::{Named, Part};
+use deku_record_parts::part::{Named, Part};
 use deku_texts::wrapping::number_kind;
 use deku_tokens::arena::Arena;
 use std::alloc::AllocError;

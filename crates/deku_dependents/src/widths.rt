@@ -6,7 +6,7 @@ use deku_description::syntax::Expression;
 use deku_markers::computing::{Computed, Computer};
 use deku_markers::marker;
 use deku_markers::marker::{Marker, Under, Unit};
-use deku_markers::part::{Named, Place, under};
+use deku_record_parts::part::{Named, Place, under};
 use deku_texts::refusal::Stop;
 use deku_texts::wrapping::{is_big, number_kind};
 use deku_tokens::place::Span;

@@ -1,12 +1,14 @@
 //! Enums, as they are printed.
 
-use crate::steps::goals;
-use crate::structs::{derives, docs, is_array, item, parts_alias, term_of, traits, value_of};
 use deku_attributes::model::{Case, Endian, Id, IdSource, Ids, Order, Record};
 use deku_dependents::building::field_name;
 use deku_description::syntax::Shape;
-use deku_markers::part::Part;
-use deku_markers::texts::field;
+use deku_record_parts::part::Part;
+use deku_record_parts::texts::field;
+use deku_structs::steps::goals;
+use deku_structs::structs::{
+    derives, docs, is_array, item, parts_alias, term_of, traits, value_of,
+};
 use deku_texts::document::{Form, Text, joined, start};
 use deku_texts::template::fill;
 use deku_texts::words::{quoted, snake};
@@ -164,7 +166,7 @@ pub(crate) fn implementation<'a>(
     if kinds.iter().any(|kind| kind.is_lent) {
         return lent(arena, out, name, ids, kinds);
     }
-    let arms = parts_of_all(arena, name, kinds, is_given)?;
+    let arms = to_parts_of_each(arena, name, kinds, is_given)?;
     fill(out, TO_PARTS, &[("name", name), ("arms", arms)])?;
     if is_given {
         return Ok(());
@@ -173,7 +175,7 @@ pub(crate) fn implementation<'a>(
 }
 
 // How each kind makes its parts.
-fn parts_of_all<'a>(
+fn to_parts_of_each<'a>(
     arena: &'a Arena,
     name: &str,
     kinds: &[Built<'a>],

@@ -2,11 +2,7 @@
 //! whose both directions are proved.
 #![tactic(auto)]
 
-mod choosing;
 mod enums;
 mod imports;
 pub mod making;
 pub mod printing;
-mod steps;
-mod structs;
-mod updates;

@@ -1,16 +1,17 @@
 //! Modules, as they are printed.
 
+use crate::enums;
 use crate::enums::Built;
 use crate::imports::imports;
-use crate::structs::docs;
-use crate::{enums, steps, structs};
 use deku_attributes::given::{given, is_given};
 use deku_attributes::model::{Case, Field, Form, Id, IdSource, Ids, Module, Record};
 use deku_dependents::building::{Builder, field_name};
 use deku_description::syntax::{Constant, Shape, Type};
 use deku_markers::marker::zeros;
-use deku_markers::part::{Owner, Place};
-use deku_markers::whole::Whole;
+use deku_record_parts::part::{Owner, Place};
+use deku_record_parts::whole::Whole;
+use deku_structs::structs::docs;
+use deku_structs::{steps, structs};
 use deku_texts::document::joined;
 use deku_texts::records::Records;
 use deku_texts::template::fill;

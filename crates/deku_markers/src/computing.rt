@@ -1,8 +1,8 @@
 //! What counts and conditions compute, as code and as ghost text.
 
-use crate::part::Place;
 use deku_attributes::reading::{bits_of, span_of};
 use deku_description::syntax::{Constant, Expression, Operator};
+use deku_record_parts::part::Place;
 use deku_texts::refusal::Stop;
 use deku_tokens::arena::Arena;
 use deku_tokens::place::Span;

@@ -2,8 +2,8 @@
 //! the parts have.
 
 use crate::computing::{Computed, Computer};
-use crate::part::Place;
 use deku_attributes::model::Order;
+use deku_record_parts::part::Place;
 use deku_texts::template::fill;
 use deku_tokens::arena::Arena;
 use std::alloc::AllocError;

@@ -1,6 +1,6 @@
 //! Structs that are written part by part, and what proves it.
 
-use deku_markers::whole::Whole;
+use deku_record_parts::whole::Whole;
 use deku_texts::document::Text;
 use deku_texts::template::fill;
 use deku_tokens::arena::Arena;
@@ -43,7 +43,7 @@ use Rattle.$front$.proofs$dot$$rest$.$name$DekuWriterUnit.to_writer.Goals as goa
 ";
 
 /// Appends what a proof of how a type is written imports: these lemmas, and its goals.
-pub(crate) fn goals<'w>(
+pub fn goals<'w>(
     out: &mut String,
     lemmas: &'w str,
     path: &'w str,
@@ -75,7 +75,7 @@ returns g c = $proof$
 
 /// Appends what proves how a struct is written part by part: a line for each part that is refused,
 /// and one for all of them.
-pub(crate) fn answers<'a>(
+pub fn answers<'a>(
     arena: &'a Arena,
     out: &mut String,
     path: &'a str,

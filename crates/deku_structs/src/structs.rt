@@ -8,8 +8,8 @@ use deku_attributes::model::{Field, Record};
 use deku_dependents::building::field_name;
 use deku_dependents::temporary::is_temporary;
 use deku_description::syntax::{Shape, Type};
-use deku_markers::part::{Owner, Part};
-use deku_markers::whole::Whole;
+use deku_record_parts::part::{Owner, Part};
+use deku_record_parts::whole::Whole;
 use deku_texts::document::{Form, Text, joined};
 use deku_texts::template::fill;
 use deku_texts::words::{quoted, snake};
@@ -19,7 +19,7 @@ use std::alloc::AllocError;
 use std::fmt::Write as _;
 
 /// Appends lines of a comment.
-pub(crate) fn docs(out: &mut String, lines: &[&str], marks: &str) -> Result<(), AllocError> {
+pub fn docs(out: &mut String, lines: &[&str], marks: &str) -> Result<(), AllocError> {
     for line in lines {
         writeln!(out, "{marks}{line}")?;
     }
@@ -28,7 +28,7 @@ pub(crate) fn docs(out: &mut String, lines: &[&str], marks: &str) -> Result<(), 
 
 /// Appends the comment of a record, and what it derives. A record for C is laid out as there, and
 /// is only copied.
-pub(crate) fn derives(
+pub fn derives(
     out: &mut String,
     record: &Record<'_>,
     is_copied: bool,
@@ -50,7 +50,7 @@ pub(crate) fn derives(
 }
 
 /// Appends a struct.
-pub(crate) fn declaration<'a>(
+pub fn declaration<'a>(
     arena: &'a Arena,
     out: &mut String,
     record: &Record<'a>,
@@ -120,7 +120,7 @@ $parts$
 ";
 
 /// Appends how a struct is read and written.
-pub(crate) fn implementation<'a>(
+pub fn implementation<'a>(
     arena: &'a Arena,
     out: &mut String,
     record: &Record<'a>,
@@ -178,7 +178,7 @@ impl FromParts for $name$ {
 
 /// Appends the type of a record's parts, which is called by this word, and what makes the record of
 /// them, up to its ghost text.
-pub(crate) fn parts_alias<'a>(
+pub fn parts_alias<'a>(
     arena: &'a Arena,
     out: &mut String,
     name: &'a str,
@@ -234,7 +234,7 @@ impl DekuContainerWrite for $name$ {}
 
 /// Appends the traits of deku for a record that is written by this body. It may take the rest of
 /// the input.
-pub(crate) fn traits<'w>(
+pub fn traits<'w>(
     out: &mut String,
     name: &'w str,
     body: &'w str,
@@ -335,7 +335,7 @@ fn by_paths<'a>(
 }
 
 /// Whether a field is an array.
-pub(crate) fn is_array(field: &Field<'_>) -> bool {
+pub fn is_array(field: &Field<'_>) -> bool {
     matches!(field.kind, Type::Array(_, _))
 }
 
@@ -395,7 +395,7 @@ fn bound<'a>(
 }
 
 /// A field, of the parts that this leads to, in ghost text.
-pub(crate) fn term_of<'a>(
+pub fn term_of<'a>(
     arena: &'a Arena,
     whole: Part<'a>,
     name: &str,
@@ -408,7 +408,7 @@ pub(crate) fn term_of<'a>(
 }
 
 /// A field, of the parts that this leads to, or of the local of its name.
-pub(crate) fn value_of<'a>(
+pub fn value_of<'a>(
     arena: &'a Arena,
     whole: Part<'a>,
     name: &'a str,
@@ -463,7 +463,7 @@ fn made_field<'a>(
 }
 
 /// A field with its value, as a struct of this shape takes it.
-pub(crate) fn item<'a>(
+pub fn item<'a>(
     arena: &'a Arena,
     shape: Shape,
     name: &'a str,
