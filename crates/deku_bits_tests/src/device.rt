@@ -83,20 +83,30 @@ fn has_bytes_of_a_buffer_at_hand(rt: HostRuntime) -> Result<(), Fail> {
     }
     let file = file_of(&rt, "bytes_buffered.bin", &bytes)?;
     let mut source = BufReader::with_capacity(rt.alloc(), 16, file)?;
+    expect_buffered(&mut source)?;
+    expect_passed(&mut source)
+}
+
+// The first nine bytes, of which eight are in memory after the first.
+fn expect_buffered<S: Source>(source: &mut S) -> Result<(), Fail> {
     same(&0, &source.try_take(1), &None)?;
-    same(&1, &fetched(&mut source)?, &0)?;
+    same(&1, &fetched(source)?, &0)?;
     same(&2, &source.try_take(2), &Some([1, 2, 3, 4, 5, 6, 7, 8]))?;
     same(&3, &source.try_take(6), &Some([3, 4, 5, 6, 7, 8, 9, 10]))?;
     same(&4, &source.try_take(1), &None)?;
-    same(&5, &fetched(&mut source)?, &9)?;
+    same(&5, &fetched(source)?, &9)
+}
+
+// The bytes after them, some of which are passed.
+fn expect_passed<S: Source>(source: &mut S) -> Result<(), Fail> {
     source.pass(4)?;
-    same(&6, &fetched(&mut source)?, &14)?;
+    same(&6, &fetched(source)?, &14)?;
     same(&7, &source.seek_to(SeekFrom::Current(0))?, &15)?;
-    same(&8, &fetched(&mut source)?, &15)?;
+    same(&8, &fetched(source)?, &15)?;
     source.pass(3)?;
-    same(&9, &fetched(&mut source)?, &19)?;
+    same(&9, &fetched(source)?, &19)?;
     same(&10, &source.try_take(0), &None)?;
-    same(&11, &fetched(&mut source).is_err(), &true)
+    same(&11, &fetched(source).is_err(), &true)
 }
 
 // The same of a stream that cannot seek: it seeks to its own place, and nowhere else.
@@ -104,8 +114,12 @@ fn has_bytes_of_a_buffer_at_hand(rt: HostRuntime) -> Result<(), Fail> {
 fn has_bytes_of_a_stream_at_hand(rt: HostRuntime) -> Result<(), Fail> {
     let bytes: &[u8] = &[0, 1, 2, 3, 4, 5, 6, 7, 8, 9, 10, 11, 12, 13, 14, 15, 16, 17];
     let mut source = BufReader::with_capacity(rt.alloc(), 16, NoSeek::new(bytes))?;
+    expect_stream(&mut source)
+}
+
+fn expect_stream<S: Source>(source: &mut S) -> Result<(), Fail> {
     same(&0, &source.try_take(1), &None)?;
-    same(&1, &fetched(&mut source)?, &0)?;
+    same(&1, &fetched(source)?, &0)?;
     same(&2, &source.try_take(2), &Some([1, 2, 3, 4, 5, 6, 7, 8]))?;
     same(&3, &source.seek_to(SeekFrom::Start(3))?, &3)?;
     same(&4, &source.seek_to(SeekFrom::Current(0))?, &3)?;
@@ -116,7 +130,7 @@ fn has_bytes_of_a_stream_at_hand(rt: HostRuntime) -> Result<(), Fail> {
     same(&7, &kind_of(source.pass(1)), &Err(ErrorKind::Other))?;
     same(&8, &source.try_take(8), &Some([3, 4, 5, 6, 7, 8, 9, 10]))?;
     same(&9, &source.try_take(1), &None)?;
-    same(&10, &fetched(&mut source)?, &11)
+    same(&10, &fetched(source)?, &11)
 }
 
 // So many bytes are left; then the eight that are in memory.

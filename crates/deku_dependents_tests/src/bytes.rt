@@ -25,7 +25,7 @@ fn numbers(alloc: Global, values: &[u16]) -> Result<Vec<Be<u16>>, Fail> {
 }
 
 #[test]
-fn lists_and_conditions(rt: HostRuntime) -> Result<(), Fail> {
+fn lists_of_a_count(rt: HostRuntime) -> Result<(), Fail> {
     let alloc = rt.alloc();
     let counted = Counting {
         count: 2,
@@ -35,7 +35,12 @@ fn lists_and_conditions(rt: HostRuntime) -> Result<(), Fail> {
     let alone = Alone {
         items: numbers(alloc, &[0xDEAD, 0xBEEF])?,
     };
-    expect_both_ways(alloc, (), &alone, 40, &[0x02, 0xDE, 0xAD, 0xBE, 0xEF])?;
+    expect_both_ways(alloc, (), &alone, 40, &[0x02, 0xDE, 0xAD, 0xBE, 0xEF])
+}
+
+#[test]
+fn lists_of_a_size(rt: HostRuntime) -> Result<(), Fail> {
+    let alloc = rt.alloc();
     let sized = Sizing {
         bytes: 4,
         items: twos(alloc)?,
@@ -46,7 +51,12 @@ fn lists_and_conditions(rt: HostRuntime) -> Result<(), Fail> {
     };
     let bytes = [0xAB, 0xBC, 0xDE, 0xEF];
     same(&2, &rest.pack_whole(alloc)?.as_slice(), &bytes.as_slice())?;
-    same(&3, &ToEnd::unpack_whole(alloc, &bytes)?, &(32, rest))?;
+    same(&3, &ToEnd::unpack_whole(alloc, &bytes)?, &(32, rest))
+}
+
+#[test]
+fn conditions(rt: HostRuntime) -> Result<(), Fail> {
+    let alloc = rt.alloc();
     let rows: [(u8, Option<u8>, &[u8]); 2] = [(1, Some(2), &[0x01, 0x02]), (2, None, &[0x02])];
     for (first, second, bytes) in rows {
         expect_both_ways(
@@ -102,7 +112,12 @@ fn lists_that_an_item_ends(rt: HostRuntime) -> Result<(), Fail> {
     let refusal = DekuError::Assertion("items out of step with their end");
     same(&1, &numbers.to_bytes(alloc), &Err(refusal))?;
     let ended = DekuError::Incomplete(NeedSize::new(16));
-    expect_refusal::<Numbers>(alloc, &[0x01, 0x00, 0x80], ended, 16)?;
+    expect_refusal::<Numbers>(alloc, &[0x01, 0x00, 0x80], ended, 16)
+}
+
+#[test]
+fn lists_between_others(rt: HostRuntime) -> Result<(), Fail> {
+    let alloc = rt.alloc();
     let between = Halves {
         count: 2,
         halves: halves(alloc, &[0xA, 0xB, 0x0])?,
@@ -116,7 +131,12 @@ fn lists_that_an_item_ends(rt: HostRuntime) -> Result<(), Fail> {
         counted: [0xFF].to_vec(alloc)?,
         bytes: [0x05, 0xFF].to_vec(alloc)?,
     };
-    expect_both_ways(alloc, (), &lists, 48, &[0x01, 0x00, 0x01, 0xFF, 0x05, 0xFF])?;
+    expect_both_ways(alloc, (), &lists, 48, &[0x01, 0x00, 0x01, 0xFF, 0x05, 0xFF])
+}
+
+#[test]
+fn a_text_and_the_rest(rt: HostRuntime) -> Result<(), Fail> {
+    let alloc = rt.alloc();
     let all = TextAndRest {
         text: [0x68, 0x00].to_vec(alloc)?,
         rest: [0xFF, 0x00].to_vec(alloc)?,
@@ -144,7 +164,12 @@ fn lists_that_a_field_of_an_item_ends(rt: HostRuntime) -> Result<(), Fail> {
     expect_both_ways(alloc, (), &name, 56, &bytes)?;
     name.labels.pop();
     let refusal = DekuError::Assertion("items out of step with their end");
-    same(&1, &name.to_bytes(alloc), &Err(refusal))?;
+    same(&1, &name.to_bytes(alloc), &Err(refusal))
+}
+
+#[test]
+fn lists_that_a_flag_of_an_item_ends(rt: HostRuntime) -> Result<(), Fail> {
+    let alloc = rt.alloc();
     let entries = [(true, 5), (true, 7)].map(|(more, key)| Entry { more, key });
     let mut table = Entries {
         entries: entries.to_vec(alloc)?,
@@ -186,6 +211,12 @@ fn counts_that_an_update_sets(rt: HostRuntime) -> Result<(), Fail> {
             &(wanted, count, items),
         )?;
     }
+    Ok(())
+}
+
+#[test]
+fn two_counts_that_an_update_sets(rt: HostRuntime) -> Result<(), Fail> {
+    let alloc = rt.alloc();
     let mut two = UpdatingTwo {
         length: 0,
         second: 0,

@@ -76,13 +76,9 @@ const UNTIMED: [u8; 20] = [
 ];
 
 #[test]
-fn blocks_in_a_pair(rt: HostRuntime) -> Result<(), Fail> {
+fn a_block_alone(rt: HostRuntime) -> Result<(), Fail> {
     let alloc = rt.alloc();
-    let alarm = Event::Alarm {
-        code: 7,
-        value: 0x0809,
-    };
-    let timed = block(alloc, Some(0x0102_0304), alarm, (2, &[0x0C0D, 0x0E0F]))?;
+    let timed = timed_block(alloc)?;
     same(
         &"written",
         &timed.to_bytes(alloc)?.as_slice(),
@@ -90,9 +86,22 @@ fn blocks_in_a_pair(rt: HostRuntime) -> Result<(), Fail> {
     )?;
     let (rest, read) = Block::from_bytes(alloc, (TIMED.as_slice(), 0))?;
     same(&"what is left", &rest, &([].as_slice(), 0))?;
-    same(&"read", &read, &timed)?;
+    same(&"read", &read, &timed)
+}
+
+fn timed_block(alloc: Global) -> Result<Block, Fail> {
+    let alarm = Event::Alarm {
+        code: 7,
+        value: 0x0809,
+    };
+    block(alloc, Some(0x0102_0304), alarm, (2, &[0x0C0D, 0x0E0F]))
+}
+
+#[test]
+fn blocks_in_a_pair(rt: HostRuntime) -> Result<(), Fail> {
+    let alloc = rt.alloc();
     let pair = Pair {
-        first: timed,
+        first: timed_block(alloc)?,
         between: 0x1011,
         second: block(alloc, None, Event::Nothing, (0, &[]))?,
     };
