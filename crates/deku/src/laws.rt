@@ -1,6 +1,7 @@
 //! Laws of what is written. Each law is the postcondition of an empty function.
 
-ghost use Rattle.std.specs.Prelude.{◌≡◌, ◌⊎◌, ℕ, ◌+◌, ◌*◌, Bool, List, Err, ℤ, length, pos};
+ghost use Rattle.std.specs.Prelude.{◌≡◌, ◌⊎◌, ℕ, ◌+◌, ◌*◌, Bool, List, Err};
+ghost use Rattle.std.specs.Prelude.{ℤ, length, pos};
 ghost use Rattle.std.specs.List.{All};
 ghost use Rattle.std.specs.declared.io.ErrorKind.{ErrorKind};
 ghost use Rattle.deku_bits.specs.declared.error.DekuError.TheVariants.{Io};

@@ -1,6 +1,7 @@
 //! Fields and numbers as C passes them.
 
-ghost use Rattle.std.specs.Prelude.{◌≡◌, ◌↔◌, ◌<◌, ◌≤◌, ◌+◌, ◌*◌, ◌^◌, false, IsTrue, IfSome, All};
+ghost use Rattle.std.specs.Prelude.{◌≡◌, ◌↔◌, ◌<◌, ◌≤◌, ◌+◌, ◌*◌};
+ghost use Rattle.std.specs.Prelude.{◌^◌, false, IsTrue, IfSome, All};
 ghost use Rattle.deku_fields.specs.Items.{number_type, field_width, IsAllowedField};
 ghost use Rattle.deku_fields.specs.ListCalls.{has_sign};
 ghost use Rattle.deku_plan.specs.Plans.{IsHigh};

@@ -1,7 +1,7 @@
 //! Writing lists of items to the caller's bytes.
 
-ghost use Rattle.std.specs.Prelude.{◌≡◌, ◌<◌, ◌^◌, ◌∷◌, [], length, false, List, Ok};
-ghost use Rattle.std.specs.Prelude.{IfSome, IsTrue, IsFalse};
+ghost use Rattle.std.specs.Prelude.{◌≡◌, ◌<◌, ◌^◌, ◌∷◌, [], length, false};
+ghost use Rattle.std.specs.Prelude.{List, Ok, IfSome, IsTrue, IsFalse};
 ghost use Rattle.deku_bits.specs.Writers.{Pending, Nothing};
 ghost use Rattle.deku_bits.specs.Standings.{Standing, Going};
 ghost use Rattle.deku_bits.specs.WriterCalls.{Finalizes, Writes, WritesAt};

@@ -1,6 +1,7 @@
 //! Maps and sets with a count.
 
-ghost use Rattle.std.specs.Prelude.{◌≡◌, ◌*◌, ◌<◌, ◌^◌, ◌∷◌, [], length, nat_eq, MatchResult};
+ghost use Rattle.std.specs.Prelude.{◌≡◌, ◌*◌, ◌<◌, ◌^◌, ◌∷◌, [], length};
+ghost use Rattle.std.specs.Prelude.{nat_eq, MatchResult};
 ghost use Rattle.std.specs.Set.{is_member, distinct_count};
 ghost use Rattle.std.specs.declared.io.ErrorKind.TheVariants.{OutOfMemory};
 ghost use Rattle.deku.specs.declared.error.DekuError.TheVariants.{Io};

@@ -1,6 +1,7 @@
 //! An offset that is followed.
 
-ghost use Rattle.std.specs.Prelude.{◌≡◌, ◌+◌, ◌*◌, ◌≤◌, Some, length, IfOk, slice_get, slice_index};
+ghost use Rattle.std.specs.Prelude.{◌≡◌, ◌+◌, ◌*◌, ◌≤◌, Some, length, IfOk};
+ghost use Rattle.std.specs.Prelude.{slice_get, slice_index};
 
 use deku_bits::ctx::Order;
 use deku_bits::error::DekuError;

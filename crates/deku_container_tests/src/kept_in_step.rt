@@ -1,6 +1,7 @@
 //! Records that update themselves, and enums whose variants have ids.
 
-ghost use Rattle.std.specs.Prelude.{◌≡◌, ◌⊎◌, ◌<◌, ◌≤◌, ◌^◌, length as count, Ok, Err, codes};
+ghost use Rattle.std.specs.Prelude.{◌≡◌, ◌⊎◌, ◌<◌, ◌≤◌, ◌^◌};
+ghost use Rattle.std.specs.Prelude.{length as count, Ok, Err, codes};
 ghost use Rattle.deku.specs.declared.error.DekuError.{DekuError as Refusal};
 ghost use Rattle.deku.specs.declared.error.DekuError.TheVariants.{Parse};
 ghost use Rattle.deku.specs.Faults.{Tells};

@@ -1,8 +1,8 @@
 //! What a reader takes its bytes from, and what a writer gives them to.
 
-ghost use Rattle.std.specs.Prelude.{◌≡◌, ◌≢◌, ℕ, ◌^◌, ◌<◌, ◌≤◌, ◌+◌, ◌-◌, ◌∷◌, List, length, take};
-ghost use Rattle.std.specs.Prelude.{drop, Option, Some, None, OnOk, IfErr, IfSome, IsNone, IsTrue};
-ghost use Rattle.std.specs.Prelude.{IsFalse};
+ghost use Rattle.std.specs.Prelude.{◌≡◌, ◌≢◌, ℕ, ◌^◌, ◌<◌, ◌≤◌};
+ghost use Rattle.std.specs.Prelude.{◌+◌, ◌-◌, ◌∷◌, List, length, take, drop, Option};
+ghost use Rattle.std.specs.Prelude.{Some, None, OnOk, IfErr, IfSome, IsNone, IsTrue, IsFalse};
 ghost use Rattle.std.specs.Io.KnownBytes.{Consumes, Keeps};
 ghost use Rattle.std.specs.IoError.{error_kind};
 ghost use Rattle.std.specs.Vec.{vec_len, vec_capacity};

@@ -1,7 +1,7 @@
 //! The program: from words on a command line to bytes and back.
 
-ghost use Rattle.std.specs.Prelude.{◌≡◌, ◌⊎◌, ◌↔◌, ◌≤◌, List, flat_map, Err, IfOk, OnOk, IfErr};
-ghost use Rattle.std.specs.Prelude.{OnErr, IsTrue, string_bytes};
+ghost use Rattle.std.specs.Prelude.{◌≡◌, ◌⊎◌, ◌↔◌, ◌≤◌, List, flat_map};
+ghost use Rattle.std.specs.Prelude.{Err, IfOk, OnOk, IfErr, OnErr, IsTrue, string_bytes};
 ghost use Rattle.std.specs.List.{AllZip};
 ghost use Rattle.std.specs.Io.KnownBytes.{Appends};
 ghost use Rattle.std.specs.IoError.{error_kind};

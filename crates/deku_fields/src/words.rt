@@ -1,7 +1,7 @@
 //! Words of a command line: fields, and fields with their values.
 
-ghost use Rattle.std.specs.Prelude.{◌≡◌, ◌↔◌, ◌++◌, ◌<◌, ◌^◌, ℕ, List, Some, IsTrue, MatchOption};
-ghost use Rattle.std.specs.Prelude.{SomeIff};
+ghost use Rattle.std.specs.Prelude.{◌≡◌, ◌↔◌, ◌++◌, ◌<◌, ◌^◌, ℕ, List};
+ghost use Rattle.std.specs.Prelude.{Some, IsTrue, MatchOption, SomeIff};
 ghost use Rattle.std.specs.Str.Parse.{IsNumeral, digits_value};
 ghost use Rattle.deku_fields.specs.declared.list.Kind.{Kind as FieldKind};
 ghost use Rattle.deku_fields.specs.declared.list.Number.{Number as FieldNumber};

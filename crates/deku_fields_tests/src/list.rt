@@ -1,6 +1,7 @@
 //! Lists of fields, read and written, against worked examples.
 
-ghost use Rattle.std.specs.Prelude.{◌≡◌, ◌<◌, ◌≤◌, ◌*◌, ◌^◌, List, ℕ, Ok, length, map, All};
+ghost use Rattle.std.specs.Prelude.{◌≡◌, ◌<◌, ◌≤◌, ◌*◌, ◌^◌, List, ℕ, Ok};
+ghost use Rattle.std.specs.Prelude.{length, map, All};
 ghost use Rattle.deku_bits.specs.Pieces.{total};
 ghost use Rattle.deku_fields.specs.declared.list.Item.{Item as ListItem};
 ghost use Rattle.deku_fields.specs.Items.{field_shape, values_of as list_values};

@@ -1,7 +1,7 @@
 //! The frame.
 
-ghost use Rattle.std.specs.Prelude.{◌≡◌, ◌≤◌, ◌<◌, ◌^◌, List, length as count, codes, IfOk, IfErr};
-ghost use Rattle.std.specs.Prelude.{OnOk, MatchBool, Ok};
+ghost use Rattle.std.specs.Prelude.{◌≡◌, ◌≤◌, ◌<◌, ◌^◌, List, length as count};
+ghost use Rattle.std.specs.Prelude.{codes, IfOk, IfErr, OnOk, MatchBool, Ok};
 ghost use Rattle.std.specs.List.{All};
 ghost use Rattle.deku_bits.specs.declared.error.DekuError.TheVariants.{Parse, InvalidParam};
 ghost use Rattle.deku_bits.specs.Faults.{Tells};

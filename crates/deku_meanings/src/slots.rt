@@ -1,7 +1,7 @@
 //! Slots of an array that are filled one after the other.
 
-ghost use Rattle.std.specs.Prelude.{◌≡◌, ℕ, ◌<◌, Some, None, map, length, slice_index_or};
-ghost use Rattle.std.specs.Prelude.{slice_set, IsSome};
+ghost use Rattle.std.specs.Prelude.{◌≡◌, ℕ, ◌<◌, Some, None, map, length};
+ghost use Rattle.std.specs.Prelude.{slice_index_or, slice_set, IsSome};
 
 use std::array;
 

@@ -8,7 +8,8 @@
 //! bytes   as many bytes
 //! ```
 
-ghost use Rattle.std.specs.Prelude.{refl, nat_lt, nat_le, Some, None, nat_eq, ◌||◌, if◌then◌else◌};
+ghost use Rattle.std.specs.Prelude.{refl, nat_lt, nat_le, Some, None, nat_eq, ◌||◌};
+ghost use Rattle.std.specs.Prelude.{if◌then◌else◌};
 ghost use Rattle.deku.specs.Composing.{Then};
 ghost use Rattle.deku.specs.Shapes.{Shows};
 

@@ -1,7 +1,8 @@
 //! Reading numbers from a reader, and writing them to a writer.
 
-ghost use Rattle.std.specs.Prelude.{◌≡◌, ◌<◌, ◌≤◌, ◌%◌, ◌^◌, Bool, true, false, List, length};
-ghost use Rattle.std.specs.Prelude.{codes, pos, Ok, OnOk, IfOk, IfErr, IfSome, IsNone};
+ghost use Rattle.std.specs.Prelude.{◌≡◌, ◌<◌, ◌≤◌, ◌%◌, ◌^◌, Bool, true};
+ghost use Rattle.std.specs.Prelude.{false, List, length, codes, pos, Ok, OnOk, IfOk, IfErr, IfSome};
+ghost use Rattle.std.specs.Prelude.{IsNone};
 ghost use Rattle.deku_bits.specs.declared.error.DekuError.TheVariants.{Parse, InvalidParam};
 ghost use Rattle.deku_bits.specs.Bits.{bits_of};
 ghost use Rattle.deku_bits.specs.ReaderCalls.{Reads, ReadsWord, TakesBits};

@@ -1,6 +1,7 @@
 //! Numbers that are cut from a word of several fields.
 
-ghost use Rattle.std.specs.Prelude.{◌≡◌, ◌-◌, ◌%◌, ◌^◌, ◌<◌, ◌≤◌, true, false, take, IfSome, pos};
+ghost use Rattle.std.specs.Prelude.{◌≡◌, ◌-◌, ◌%◌, ◌^◌, ◌<◌, ◌≤◌, true};
+ghost use Rattle.std.specs.Prelude.{false, take, IfSome, pos};
 ghost use Rattle.deku_bits.specs.Streams.{flow};
 ghost use Rattle.deku_bits.specs.Bits.{bits_of, facing};
 ghost use Rattle.deku_num.specs.Cutting.{front, IsCutValue};

@@ -1,8 +1,9 @@
 //! Fields as words: their widths, the numbers that words make, and the words of values.
 
-ghost use Rattle.std.specs.Prelude.{◌≡◌, ◌↔◌, ◌<◌, ◌≤◌, ◌-◌, ◌*◌, ◌/◌, ◌^◌, ◌%◌, List, Bool, true};
-ghost use Rattle.std.specs.Prelude.{false, length, IsTrue, IsOk, IfOk, IfSome, IsNone, Err, ℤ, pos};
-ghost use Rattle.std.specs.Prelude.{negsuc, ◌-ℤ◌, ◌<ℤ◌};
+ghost use Rattle.std.specs.Prelude.{◌≡◌, ◌↔◌, ◌<◌, ◌≤◌, ◌-◌, ◌*◌};
+ghost use Rattle.std.specs.Prelude.{◌/◌, ◌^◌, ◌%◌, List, Bool, true, false, length};
+ghost use Rattle.std.specs.Prelude.{IsTrue, IsOk, IfOk, IfSome, IsNone, Err, ℤ, pos, negsuc};
+ghost use Rattle.std.specs.Prelude.{◌-ℤ◌, ◌<ℤ◌};
 ghost use Rattle.std.specs.Int.{w128, swap_bytes};
 ghost use Rattle.deku_bits.specs.Bits.{word_of};
 ghost use Rattle.deku_num.specs.NumberLaws.{Within, residue};

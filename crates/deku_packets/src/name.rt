@@ -1,7 +1,7 @@
 //! Names of the domain name system, through their pointers.
 
-ghost use Rattle.std.specs.Prelude.{◌≡◌, ℕ, ◌+◌, ◌-◌, ◌*◌, ◌<◌, ◌≤◌, length, IfOk, IfErr, IfSome};
-ghost use Rattle.std.specs.Prelude.{IsNone, Some, slice_get};
+ghost use Rattle.std.specs.Prelude.{◌≡◌, ℕ, ◌+◌, ◌-◌, ◌*◌, ◌<◌, ◌≤◌};
+ghost use Rattle.std.specs.Prelude.{length, IfOk, IfErr, IfSome, IsNone, Some, slice_get};
 ghost use Rattle.deku_packets.specs.Names.{Follows, IsStep, IsWrong};
 
 use std::fmt;

@@ -1,6 +1,7 @@
 //! Items that several parts before them count.
 
-ghost use Rattle.std.specs.Prelude.{◌*◌, ◌-◌, nat_lt, None, Some, if◌then◌else◌, refl};
+ghost use Rattle.std.specs.Prelude.{◌*◌, ◌-◌, nat_lt, None, Some, if◌then◌else◌};
+ghost use Rattle.std.specs.Prelude.{refl};
 
 use crate::rows::{Row, expect_rows};
 use deku::prelude::{DekuError, NeedSize};

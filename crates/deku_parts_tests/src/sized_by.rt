@@ -1,6 +1,7 @@
 //! Content of as many bits as the parts before it say.
 
-ghost use Rattle.std.specs.Prelude.{◌*◌, ◌-◌, nat_eq, None, Some, if◌then◌else◌, refl};
+ghost use Rattle.std.specs.Prelude.{◌*◌, ◌-◌, nat_eq, None, Some, if◌then◌else◌};
+ghost use Rattle.std.specs.Prelude.{refl};
 
 use crate::rows::{Row, expect_rows};
 use deku::prelude::DekuError;

@@ -1,6 +1,7 @@
 //! Content of as many bits as the parts before it say.
 
-ghost use Rattle.std.specs.Prelude.{◌≡◌, ◌+◌, ◌<◌, ◌^◌, ℕ, length, Option, OnOk};
+ghost use Rattle.std.specs.Prelude.{◌≡◌, ◌+◌, ◌<◌, ◌^◌, ℕ, length, Option};
+ghost use Rattle.std.specs.Prelude.{OnOk};
 ghost use Rattle.deku_bits.specs.ReaderCalls.{Reads};
 ghost use Rattle.deku_bits.specs.WriterCalls.{Writes, written_count, pending_state};
 ghost use Rattle.deku_bits.specs.Writers.{pending_bits};

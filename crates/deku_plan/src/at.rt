@@ -1,6 +1,7 @@
 //! Single fields in bytes in memory.
 
-ghost use Rattle.std.specs.Prelude.{◌≡◌, ◌+◌, ◌*◌, ◌<◌, ◌≤◌, ◌^◌, length, IfSome, IsNone};
+ghost use Rattle.std.specs.Prelude.{◌≡◌, ◌+◌, ◌*◌, ◌<◌, ◌≤◌, ◌^◌};
+ghost use Rattle.std.specs.Prelude.{length, IfSome, IsNone};
 ghost use Rattle.deku_fields.specs.Items.{field_width, IsAllowedField};
 ghost use Rattle.deku_plan.specs.Records.{IsReadAt, IsHighAt, IsStraight};
 

@@ -1,7 +1,7 @@
 //! Numbers that are cut from bytes in memory.
 
-ghost use Rattle.std.specs.Prelude.{◌≡◌, All, ◌+◌, ◌-◌, ◌*◌, ◌<◌, ◌≤◌, ◌^◌, List, Bool, length};
-ghost use Rattle.std.specs.Prelude.{take, drop, false};
+ghost use Rattle.std.specs.Prelude.{◌≡◌, All, ◌+◌, ◌-◌, ◌*◌, ◌<◌, ◌≤◌};
+ghost use Rattle.std.specs.Prelude.{◌^◌, List, Bool, length, take, drop, false};
 ghost use Rattle.deku_bits.specs.declared.ctx.Order.TheVariants.{Msb0};
 ghost use Rattle.deku_bits.specs.Bits.{bin};
 ghost use Rattle.deku_bits.specs.Streams.{taken, left, fresh};

@@ -1,6 +1,7 @@
 //! Numbers that are joined to words of whole bytes.
 
-ghost use Rattle.std.specs.Prelude.{◌≡◌, ◌+◌, ◌*◌, ◌<◌, ◌≤◌, ◌++◌, length, take};
+ghost use Rattle.std.specs.Prelude.{◌≡◌, ◌+◌, ◌*◌, ◌<◌, ◌≤◌, ◌++◌};
+ghost use Rattle.std.specs.Prelude.{length, take};
 ghost use Rattle.deku_bits.specs.Bits.{bits_in};
 ghost use Rattle.deku_fields.specs.declared.list.Number.TheVariants.{Unsigned};
 ghost use Rattle.deku_plan.specs.Plans.{widths};

@@ -1,6 +1,7 @@
 //! What a plan knows of a field.
 
-ghost use Rattle.std.specs.Prelude.{◌≡◌, ◌+◌, ◌≤◌, ◌^◌, false, IfOk, IfErr, IsTrue};
+ghost use Rattle.std.specs.Prelude.{◌≡◌, ◌+◌, ◌≤◌, ◌^◌, false, IfOk, IfErr};
+ghost use Rattle.std.specs.Prelude.{IsTrue};
 ghost use Rattle.deku_bits.specs.declared.error.DekuError.TheVariants.{InvalidParam};
 ghost use Rattle.deku_num.specs.NumberCalls.{beyond, IsLayoutRefusal};
 ghost use Rattle.deku_fields.specs.Items.{number_type, field_width, IsAllowedField};

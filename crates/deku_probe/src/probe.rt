@@ -3,8 +3,9 @@
 
 #![tactic(auto, using(deku_device::proofs::Wholes::onward_same, deku_device::proofs::Wholes::read_onward, deku_device::proofs::Wholes::nowhere))]
 
-ghost use Rattle.std.specs.Prelude.{◌≡◌, ◌≢◌, ◌<◌, ◌≤◌, ◌+◌, ◌-◌, ◌^◌, ◌↔◌, min, [], ◌∷◌, Some};
-ghost use Rattle.std.specs.Prelude.{None, length, take, OnOk, OnErr, IfOk, IfErr, IfSome, IsOk};
+ghost use Rattle.std.specs.Prelude.{◌≡◌, ◌≢◌, ◌<◌, ◌≤◌, ◌+◌, ◌-◌};
+ghost use Rattle.std.specs.Prelude.{◌^◌, ◌↔◌, min, [], ◌∷◌, Some, None, length};
+ghost use Rattle.std.specs.Prelude.{take, OnOk, OnErr, IfOk, IfErr, IfSome, IsOk};
 ghost use Rattle.std.specs.Io.{ReadsAtMost, WritesAtMost};
 ghost use Rattle.std.specs.Io.Cursor.{cursor_position, cursor_inner, cursor_remaining};
 ghost use Rattle.std.specs.Io.Cursor.{IsSeekResult, IsSeekFromEnd};

@@ -1,7 +1,8 @@
 //! Reading bits.
 
-ghost use Rattle.std.specs.Prelude.{◌≡◌, ◌+◌, ◌*◌, ◌^◌, ◌≤◌, ◌<◌, false, Ok, [], length, take};
-ghost use Rattle.std.specs.Prelude.{drop, OnOk, IfOk, IfErr, IfSome, IsNone};
+ghost use Rattle.std.specs.Prelude.{◌≡◌, ◌+◌, ◌*◌, ◌^◌, ◌≤◌, ◌<◌};
+ghost use Rattle.std.specs.Prelude.{false, Ok, [], length, take, drop, OnOk, IfOk, IfErr, IfSome};
+ghost use Rattle.std.specs.Prelude.{IsNone};
 ghost use Rattle.std.specs.Borrow.{Lends, sem};
 ghost use Rattle.deku_stream.specs.Bits.{bits_of, facing};
 ghost use Rattle.deku_stream.specs.Standings.{Going};

@@ -1,6 +1,7 @@
 //! Bits in the order in which they are taken, and as they are shown: the high bit first.
 
-ghost use Rattle.std.specs.Prelude.{◌≡◌, ◌+◌, ◌≤◌, ◌++◌, length, take, drop, reverse};
+ghost use Rattle.std.specs.Prelude.{◌≡◌, ◌+◌, ◌≤◌, ◌++◌, length, take, drop};
+ghost use Rattle.std.specs.Prelude.{reverse};
 ghost use Rattle.deku_stream.specs.Bits.{shown};
 
 use crate::ctx::Order;

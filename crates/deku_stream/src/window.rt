@@ -1,7 +1,8 @@
 //! The unread part of one byte.
 
-ghost use Rattle.std.specs.Prelude.{◌≡◌, ◌+◌, ◌*◌, ◌/◌, ◌%◌, ◌^◌, ◌<◌, ◌≤◌, ◌-◌, [], ◌∷◌, ◌++◌};
-ghost use Rattle.std.specs.Prelude.{length, take, drop, All};
+ghost use Rattle.std.specs.Prelude.{◌≡◌, ◌+◌, ◌*◌, ◌/◌, ◌%◌, ◌^◌};
+ghost use Rattle.std.specs.Prelude.{◌<◌, ◌≤◌, ◌-◌, [], ◌∷◌, ◌++◌, length};
+ghost use Rattle.std.specs.Prelude.{take, drop, All};
 ghost use Rattle.std.specs.Int.{w64, to_le_bytes};
 ghost use Rattle.deku_stream.specs.declared.ctx.Order.{Order as BitOrder};
 ghost use Rattle.deku_stream.specs.Bits.{bits_of, byte_bits, facing, groups, word_of};

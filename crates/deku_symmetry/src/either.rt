@@ -1,6 +1,7 @@
 //! Kinds of values that an id chooses: the parts of enums.
 
-ghost use Rattle.std.specs.Prelude.{◌≡◌, ℕ, nat_eq, Bool, true, ◌||◌, List, Option, OnOk, refl};
+ghost use Rattle.std.specs.Prelude.{◌≡◌, ℕ, nat_eq, Bool, true, ◌||◌, List, Option};
+ghost use Rattle.std.specs.Prelude.{OnOk, refl};
 ghost use Rattle.deku_bits.specs.Pieces.{Piece};
 ghost use Rattle.deku_bits.specs.Streams.{Stream};
 ghost use Rattle.deku_bits.specs.Standings.{Output};

@@ -1,7 +1,7 @@
 //! Words that the bits of values make.
 
-ghost use Rattle.std.specs.Prelude.{◌≡◌, ◌+◌, ◌++◌, ◌%◌, ◌^◌, ◌<◌, ◌≤◌, true, false, pos, IfSome};
-ghost use Rattle.std.specs.Prelude.{IsTrue, IsFalse};
+ghost use Rattle.std.specs.Prelude.{◌≡◌, ◌+◌, ◌++◌, ◌%◌, ◌^◌, ◌<◌};
+ghost use Rattle.std.specs.Prelude.{◌≤◌, true, false, pos, IfSome, IsTrue, IsFalse};
 ghost use Rattle.deku_bits.specs.Bits.{bits_of, facing};
 ghost use Rattle.deku_num.specs.Numbers.{width, IsAllowed};
 ghost use Rattle.deku_num.specs.NumberCalls.{WritesNumber};

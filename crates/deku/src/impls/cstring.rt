@@ -1,14 +1,19 @@
 //! Texts that end with a zero.
 
-ghost use Rattle.std.specs.Prelude.{◌≡◌, ◌<◌, ℕ, List, [], ◌∷◌, ◌++◌, length, codes, OnOk, IfOk};
-ghost use Rattle.std.specs.Prelude.{IfErr, MatchOption};
+ghost use Rattle.std.specs.Prelude.{◌≡◌, ◌<◌, ℕ, List, [], ◌∷◌, ◌++◌, length};
+ghost use Rattle.std.specs.Prelude.{codes, pos, OnOk, IfOk, IfErr, MatchOption};
 ghost use Rattle.std.specs.List.{Contains};
 ghost use Rattle.deku_bits.specs.declared.error.DekuError.TheVariants.{Parse};
 ghost use Rattle.deku_bits.specs.ReaderCalls.{Reads, read_count};
 ghost use Rattle.deku_bits.specs.Faults.{Tells};
+ghost use Rattle.deku_num.specs.Numbers.{byte};
+ghost use Rattle.deku_num.specs.NumberCalls.{WritesNumber};
+ghost use Rattle.deku_meanings.specs.Composing.{Both};
 ghost use Rattle.deku_reading.specs.Early.{NoReadAhead};
 ghost use Rattle.deku_reading.specs.Lists.{Runs, on_value};
-ghost use Rattle.deku.specs.Texts.{NoZeros, IsTerminated, ReadsByte};
+ghost use Rattle.deku_writing.specs.Composing.{WritesEach};
+ghost use Rattle.deku.specs.Texts.{NoZeros, IsTerminated, ReadsByte, ReadsTerminated};
+ghost use Rattle.deku.specs.Texts.{ReadsWithin};
 
 use deku_bits::device::{Sink, Source};
 use deku_bits::error::DekuError;
@@ -169,9 +174,6 @@ fn unended(bytes: Vec<u8>) -> Result<CString, DekuError>
 /// It fails as one of these reads does, or with `Io(OutOfMemory)` if there is no memory for a byte
 /// that was read; the reader is then after that byte.
 impl DekuReader<()> for CString {
-    ghost use Rattle.std.specs.Prelude.{◌≡◌};
-    ghost use Rattle.deku.specs.Texts.{ReadsTerminated};
-
     ghost meaning = { λ _. ReadsTerminated };
 
     fn from_reader_with_ctx<R: Source>(reader: &mut Reader<R>, ctx: ()) -> Result<Self, DekuError> {
@@ -188,9 +190,6 @@ impl DekuReader<()> for CString {
 /// byte is one, or there are no bytes, it fails with `Parse("Failed to convert Vec to CString")`,
 /// after all of them.
 impl DekuReader<ByteSize> for CString {
-    ghost use Rattle.std.specs.Prelude.{◌≡◌};
-    ghost use Rattle.deku.specs.Texts.{ReadsWithin};
-
     ghost meaning = { λ c. ReadsWithin c.0 };
 
     fn from_reader_with_ctx<R: Source>(
@@ -205,12 +204,6 @@ impl DekuReader<ByteSize> for CString {
 /// The bytes and a zero, each written as a `u8` under the context, one after the other. It takes no
 /// memory. It fails as the first byte that fails, and what was written before stays written.
 impl<C: NumberCtx> DekuWriter<C> for CString {
-    ghost use Rattle.std.specs.Prelude.{◌≡◌, pos};
-    ghost use Rattle.deku_num.specs.Numbers.{byte};
-    ghost use Rattle.deku_num.specs.NumberCalls.{WritesNumber};
-    ghost use Rattle.deku_meanings.specs.Composing.{Both};
-    ghost use Rattle.deku_writing.specs.Composing.{WritesEach};
-
     ghost meaning = { λ text c. Both (WritesEach (λ b. WritesNumber byte (C.layout_of c) (pos b))
         text) (WritesNumber byte (C.layout_of c) (pos 0)) };
 

@@ -1,6 +1,7 @@
 //! Buffered files and streams as sources, and buffered writers as sinks.
 
-ghost use Rattle.std.specs.Prelude.{◌≡◌, ◌<◌, ◌≤◌, ◌↔◌, length, take, drop, IfSome, IsNone};
+ghost use Rattle.std.specs.Prelude.{◌≡◌, ◌<◌, ◌≤◌, ◌↔◌, length, take, drop};
+ghost use Rattle.std.specs.Prelude.{IfSome, IsNone};
 ghost use Rattle.std.specs.Io.Buffered.{reader_buffer};
 ghost use Rattle.deku_device.specs.Devices.{unknown_source, unknown_sink};
 

@@ -2,8 +2,9 @@
 
 #![tactic(auto, using(crate::proofs::Wholes::onward_same, crate::proofs::Wholes::nowhere, crate::proofs::Wholes::slice_onward))]
 
-ghost use Rattle.std.specs.Prelude.{◌≡◌, ◌<◌, ◌≤◌, ◌+◌, ◌-◌, ◌++◌, min, length, take, drop, Some};
-ghost use Rattle.std.specs.Prelude.{OnOk, IfErr, IsTrue, IsFalse, ◌↔◌};
+ghost use Rattle.std.specs.Prelude.{◌≡◌, ◌<◌, ◌≤◌, ◌+◌, ◌-◌, ◌++◌, min};
+ghost use Rattle.std.specs.Prelude.{length, take, drop, Some, OnOk, IfErr, IsTrue, IsFalse};
+ghost use Rattle.std.specs.Prelude.{◌↔◌};
 ghost use Rattle.std.specs.Io.KnownBytes.{Keeps};
 ghost use Rattle.std.specs.Io.Cursor.{cursor_position, cursor_inner};
 ghost use Rattle.std.specs.IoError.{error_kind};

@@ -1,7 +1,7 @@
 //! Collections into which items are put.
 
-ghost use Rattle.std.specs.Prelude.{◌≡◌, ◌⊎◌, ◌↔◌, ◌+◌, ◌<◌, ◌≤◌, true, false, OnOk, OnErr, IfErr};
-ghost use Rattle.std.specs.Prelude.{codes};
+ghost use Rattle.std.specs.Prelude.{◌≡◌, ◌⊎◌, ◌↔◌, ◌+◌, ◌<◌, ◌≤◌};
+ghost use Rattle.std.specs.Prelude.{true, false, OnOk, OnErr, IfErr, codes};
 ghost use Rattle.deku_bits.specs.declared.error.DekuError.TheVariants.{Parse};
 ghost use Rattle.deku_bits.specs.Faults.{Tells};
 

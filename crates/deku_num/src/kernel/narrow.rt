@@ -1,6 +1,7 @@
 //! Words of at most 64 bits and their numbers.
 
-ghost use Rattle.std.specs.Prelude.{◌≡◌, ◌<◌, ◌≤◌, ◌-◌, ◌*◌, ◌/◌, ◌^◌, List, Bool, length};
+ghost use Rattle.std.specs.Prelude.{◌≡◌, ◌<◌, ◌≤◌, ◌-◌, ◌*◌, ◌/◌};
+ghost use Rattle.std.specs.Prelude.{◌^◌, List, Bool, length};
 ghost use Rattle.std.specs.Int.{w128, swap_bytes};
 ghost use Rattle.deku_bits.specs.Bits.{word_of};
 ghost use Rattle.deku_num.specs.Numbers.{number as number_of};

@@ -1,6 +1,7 @@
 //! One field of many records in bytes in memory.
 
-ghost use Rattle.std.specs.Prelude.{◌≡◌, ◌+◌, ◌*◌, ◌<◌, ◌≤◌, ◌^◌, ℕ, length};
+ghost use Rattle.std.specs.Prelude.{◌≡◌, ◌+◌, ◌*◌, ◌<◌, ◌≤◌, ◌^◌, ℕ};
+ghost use Rattle.std.specs.Prelude.{length};
 ghost use Rattle.deku_bits.specs.ReaderCalls.{Reads, filling};
 ghost use Rattle.deku_fields.specs.ListCalls.{ReadsFields};
 ghost use Rattle.deku_plan.specs.Plans.{AreSteps, IsHigh, IsStepOf};

@@ -1,6 +1,7 @@
 //! Reading the fields of a plan.
 
-ghost use Rattle.std.specs.Prelude.{◌≡◌, ◌≤◌, [], length, map, true, Ok, OnOk, IfSome, IsNone};
+ghost use Rattle.std.specs.Prelude.{◌≡◌, ◌≤◌, [], length, map, true, Ok, OnOk, IfSome};
+ghost use Rattle.std.specs.Prelude.{IsNone};
 ghost use Rattle.deku_bits.specs.Pieces.{total};
 ghost use Rattle.deku_bits.specs.ReaderCalls.{Reads, filling, source_of, Fetched, FetchedInTime};
 ghost use Rattle.deku_bits.specs.ReaderCalls.{KeepsSourceStopped};

@@ -1,6 +1,7 @@
 //! Writing the fields of a plan.
 
-ghost use Rattle.std.specs.Prelude.{◌≡◌, ◌<◌, ◌≤◌, ◌^◌, [], length, Ok, IfSome, IsTrue, IsFalse};
+ghost use Rattle.std.specs.Prelude.{◌≡◌, ◌<◌, ◌≤◌, ◌^◌, [], length, Ok, IfSome};
+ghost use Rattle.std.specs.Prelude.{IsTrue, IsFalse};
 ghost use Rattle.deku_bits.specs.Causes.{WantsPlace, Caused};
 ghost use Rattle.deku_bits.specs.WriterCalls.{Writes, sink_of, KeepsSinkStopped};
 ghost use Rattle.deku_fields.specs.declared.list.Number.TheVariants.{Unsigned};

@@ -2,8 +2,8 @@
 
 #![tactic(auto, using(deku_device::proofs::Wholes::onward_same, deku_device::proofs::Wholes::read_onward, deku_device::proofs::Wholes::nowhere))]
 
-ghost use Rattle.std.specs.Prelude.{◌≡◌, ◌≢◌, ◌<◌, ◌≤◌, ◌^◌, ◌∷◌, [], length, Some, OnOk, OnErr};
-ghost use Rattle.std.specs.Prelude.{IfOk, IfErr, IsOk};
+ghost use Rattle.std.specs.Prelude.{◌≡◌, ◌≢◌, ◌<◌, ◌≤◌, ◌^◌, ◌∷◌};
+ghost use Rattle.std.specs.Prelude.{[], length, Some, OnOk, OnErr, IfOk, IfErr, IsOk};
 ghost use Rattle.std.specs.Io.{ReadsAtMost};
 ghost use Rattle.std.specs.Io.Cursor.{cursor_position, cursor_inner, IsSeekResult, IsSeekFromEnd};
 ghost use Rattle.std.specs.Io.KnownBytes.{Consumes, Keeps, ReadConsumes};

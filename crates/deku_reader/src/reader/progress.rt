@@ -2,7 +2,8 @@
 
 #![tactic(auto, using(deku_device::proofs::Wholes::onward_same))]
 
-ghost use Rattle.std.specs.Prelude.{◌≡◌, ◌≢◌, ℕ, ◌*◌, ◌^◌, ◌<◌, ◌≤◌, ◌⊎◌, ◌-◌, false, Ok, [], ◌∷◌};
+ghost use Rattle.std.specs.Prelude.{◌≡◌, ◌≢◌, ℕ, ◌*◌, ◌^◌, ◌<◌};
+ghost use Rattle.std.specs.Prelude.{◌≤◌, ◌⊎◌, ◌-◌, false, Ok, [], ◌∷◌};
 ghost use Rattle.std.specs.Prelude.{length, drop, IfOk, OnOk, IfErr, IfSome, IsNone};
 ghost use Rattle.std.specs.Io.KnownBytes.{Consumes};
 ghost use Rattle.std.specs.IoError.{error_kind};

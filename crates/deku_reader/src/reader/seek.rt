@@ -1,7 +1,7 @@
 //! Seeking.
 
-ghost use Rattle.std.specs.Prelude.{◌≡◌, ◌^◌, ◌<◌, ◌≤◌, ℕ, pos, [], None, OnOk, IfErr, IfSome};
-ghost use Rattle.std.specs.Prelude.{IfNone, IsErrAnd};
+ghost use Rattle.std.specs.Prelude.{◌≡◌, ◌^◌, ◌<◌, ◌≤◌, ℕ, pos, [], None};
+ghost use Rattle.std.specs.Prelude.{OnOk, IfErr, IfSome, IfNone, IsErrAnd};
 ghost use Rattle.std.specs.Io.KnownBytes.{Keeps};
 ghost use Rattle.std.specs.Io.Seek.{SeekMoves, MovesTo, MovesBy, StaysAt};
 ghost use Rattle.std.specs.IoError.{error_kind};

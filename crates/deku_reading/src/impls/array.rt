@@ -1,8 +1,8 @@
 //! Arrays: a fixed number of items, in order. If a few items are all made from words, and their
 //! bits are in memory, they are cut from one number.
 
-ghost use Rattle.std.specs.Prelude.{◌≡◌, ◌<◌, ◌≤◌, ◌^◌, ℕ, List, Option, Some, map, length};
-ghost use Rattle.std.specs.Prelude.{OnOk, IfOk, IfSome};
+ghost use Rattle.std.specs.Prelude.{◌≡◌, ◌<◌, ◌≤◌, ◌^◌, ℕ, List, Option};
+ghost use Rattle.std.specs.Prelude.{Some, map, length, OnOk, IfOk, IfSome};
 ghost use Rattle.deku_bits.specs.Outcomes.{Mapped};
 ghost use Rattle.deku_bits.specs.ReaderCalls.{Reads, filling};
 ghost use Rattle.deku_reading.specs.Cutting.{IsCutFrom};

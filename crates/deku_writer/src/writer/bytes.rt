@@ -1,6 +1,7 @@
 //! Whole bytes that are given out, through held bits or at once.
 
-ghost use Rattle.std.specs.Prelude.{◌≡◌, ◌<◌, ◌≤◌, length, take, reverse, OnOk, IfErr};
+ghost use Rattle.std.specs.Prelude.{◌≡◌, ◌<◌, ◌≤◌, length, take, reverse, OnOk};
+ghost use Rattle.std.specs.Prelude.{IfErr};
 ghost use Rattle.deku_stream.specs.declared.ctx.Order.TheVariants.{Msb0};
 ghost use Rattle.deku_stream.specs.Bits.{bits_in};
 ghost use Rattle.deku_device.specs.Devices.{Gave};

@@ -1,6 +1,7 @@
 //! Held bits and those after them, as one number of at most 64 bits.
 
-ghost use Rattle.std.specs.Prelude.{◌≡◌, ◌<◌, ◌≤◌, ◌+◌, ◌*◌, ◌/◌, ◌%◌, ◌^◌, ◌++◌, take, All};
+ghost use Rattle.std.specs.Prelude.{◌≡◌, ◌<◌, ◌≤◌, ◌+◌, ◌*◌, ◌/◌};
+ghost use Rattle.std.specs.Prelude.{◌%◌, ◌^◌, ◌++◌, take, All};
 ghost use Rattle.deku_stream.specs.declared.ctx.Order.TheVariants.{Msb0};
 ghost use Rattle.deku_stream.specs.Bits.{bits_of, facing};
 ghost use Rattle.deku_stream.specs.Streams.{flow};

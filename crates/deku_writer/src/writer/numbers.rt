@@ -1,6 +1,7 @@
 //! Numbers whose bits are given out in an order, if the sink has room in memory.
 
-ghost use Rattle.std.specs.Prelude.{◌≡◌, ◌<◌, ◌≤◌, ◌%◌, ◌^◌, [], length, IsTrue, IsFalse};
+ghost use Rattle.std.specs.Prelude.{◌≡◌, ◌<◌, ◌≤◌, ◌%◌, ◌^◌, [], length};
+ghost use Rattle.std.specs.Prelude.{IsTrue, IsFalse};
 ghost use Rattle.deku_stream.specs.Bits.{bits_of, facing, shown};
 ghost use Rattle.deku_stream.specs.Writers.{Meets, held as pending_in};
 ghost use Rattle.deku_writer.specs.Pushing.{Pushed, PushedOnto};

@@ -2,8 +2,9 @@
 
 #![tactic(auto, using(deku_device::proofs::Wholes::onward_same))]
 
-ghost use Rattle.std.specs.Prelude.{◌≡◌, ◌<◌, ◌≤◌, ◌+◌, ◌-◌, ◌/◌, ◌%◌, Bool, List, false, min};
-ghost use Rattle.std.specs.Prelude.{take, drop, slice_index_or, ◌++◌, ◌∷◌, [], length, OnOk, IfErr};
+ghost use Rattle.std.specs.Prelude.{◌≡◌, ◌<◌, ◌≤◌, ◌+◌, ◌-◌, ◌/◌};
+ghost use Rattle.std.specs.Prelude.{◌%◌, Bool, List, false, min, take, drop, slice_index_or};
+ghost use Rattle.std.specs.Prelude.{◌++◌, ◌∷◌, [], length, OnOk, IfErr};
 ghost use Rattle.std.specs.IoError.{error_kind};
 ghost use Rattle.deku_stream.specs.declared.ctx.Order.TheVariants.{Msb0, Lsb0};
 ghost use Rattle.deku_writer.specs.declared.writer.way.Way.TheVariants.{BytesBackward};

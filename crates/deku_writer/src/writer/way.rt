@@ -1,7 +1,7 @@
 //! Ways to go through a list of bits.
 
-ghost use Rattle.std.specs.Prelude.{◌≡◌, ◌<◌, ◌+◌, ◌-◌, ◌*◌, ◌/◌, ◌%◌, Bool, List, false};
-ghost use Rattle.std.specs.Prelude.{slice_index_or, length};
+ghost use Rattle.std.specs.Prelude.{◌≡◌, ◌<◌, ◌+◌, ◌-◌, ◌*◌, ◌/◌};
+ghost use Rattle.std.specs.Prelude.{◌%◌, Bool, List, false, slice_index_or, length};
 ghost use Rattle.deku_stream.specs.Bits.{shown};
 ghost use Rattle.deku_writer.specs.Pushing.{along, IsFor};
 

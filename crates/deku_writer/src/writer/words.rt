@@ -1,7 +1,8 @@
 //! Words that are given out through held bits.
 
-ghost use Rattle.std.specs.Prelude.{◌≡◌, ◌↔◌, ◌<◌, ◌≤◌, ◌+◌, ◌*◌, ◌/◌, ◌%◌, ◌^◌, ◌⊎◌, length, take};
-ghost use Rattle.std.specs.Prelude.{IsTrue, IsFalse, OnOk, IfErr};
+ghost use Rattle.std.specs.Prelude.{◌≡◌, ◌↔◌, ◌<◌, ◌≤◌, ◌+◌, ◌*◌};
+ghost use Rattle.std.specs.Prelude.{◌/◌, ◌%◌, ◌^◌, ◌⊎◌, length, take, IsTrue};
+ghost use Rattle.std.specs.Prelude.{IsFalse, OnOk, IfErr};
 ghost use Rattle.deku_device.specs.Devices.{Gave};
 ghost use Rattle.deku_stream.specs.Bits.{bits_of, facing, shown};
 ghost use Rattle.deku_stream.specs.Streams.{flow};
