@@ -18,8 +18,7 @@
 //!
 //! Printed by `derive` from `ipv4.rs`.
 
-ghost use Rattle.std.specs.Prelude.{◌-◌, ◌*◌, nat_eq, nat_lt, None, Some};
-ghost use Rattle.std.specs.Prelude.{if◌then◌else◌, codes, refl};
+ghost use Rattle.std.specs.Prelude.{◌-◌, ◌*◌, nat_eq, nat_lt, None, Some, if◌then◌else◌, codes, refl};
 ghost use Rattle.deku.specs.Composing.{Then};
 ghost use Rattle.deku.specs.Shapes.{Shows};
 ghost use Rattle.deku_symmetry.specs.Fields.{be, msb};

@@ -16,8 +16,7 @@
 //!
 //! Printed by `derive` from `tcp.rs`.
 
-ghost use Rattle.std.specs.Prelude.{◌-◌, ◌*◌, nat_lt, None, Some, if◌then◌else◌};
-ghost use Rattle.std.specs.Prelude.{refl};
+ghost use Rattle.std.specs.Prelude.{◌-◌, ◌*◌, nat_lt, None, Some, if◌then◌else◌, refl};
 ghost use Rattle.deku.specs.Composing.{Then};
 ghost use Rattle.deku.specs.Shapes.{Shows};
 ghost use Rattle.deku_symmetry.specs.Fields.{be, msb};
