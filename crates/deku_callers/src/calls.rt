@@ -135,6 +135,3 @@ pub fn five_in_three(
         &[last.field],
     )
 }
-
-#[cfg(test)]
-mod tests;

@@ -98,6 +98,3 @@ pub fn record_there_and_back(alloc: Global, numbers: &Vec<u16>) -> Result<Vec<u1
     let record = record_of(alloc, numbers)?;
     numbers_of(alloc, record.as_slice())
 }
-
-#[cfg(test)]
-mod tests;

@@ -44,6 +44,3 @@ pub fn rewritten(alloc: Global, bytes: &[u8]) -> Result<Vec<u8>, DekuError>
     let (_rest, frame) = Frame::from_bytes(alloc, (bytes, 0))?;
     frame.to_bytes(alloc)
 }
-
-#[cfg(test)]
-mod tests;

@@ -27,6 +27,3 @@ pub fn record_of(alloc: Global, payload: &[u8]) -> Result<Vec<u8>, DekuError>
     writer.write_bytes(&[payload.len() as u8])?;
     Ok(writer.into_inner().into_inner())
 }
-
-#[cfg(test)]
-mod tests;

@@ -10,6 +10,4 @@ pub mod list;
 pub mod maps;
 pub mod offset;
 pub mod record;
-#[cfg(test)]
-mod same;
 pub mod source;

@@ -173,6 +173,3 @@ fn items_of(alloc: Global, fields: &[Field], values: &[Number]) -> Result<Vec<It
     }
     Ok(items)
 }
-
-#[cfg(test)]
-mod tests;

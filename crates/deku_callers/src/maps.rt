@@ -81,6 +81,3 @@ pub fn kept_once(alloc: Global, items: &Vec<u8>, byte: u8) -> Result<(bool, usiz
     )?;
     Ok((set.contains(&byte), set.len()))
 }
-
-#[cfg(test)]
-mod tests;

@@ -29,6 +29,3 @@ pub fn byte_of_record(alloc: Global, bytes: &[u8]) -> Result<u8, DekuError>
     reader.read_bytes_const_into(&mut byte, Order::Msb0)?;
     Ok(byte[0])
 }
-
-#[cfg(test)]
-mod tests;

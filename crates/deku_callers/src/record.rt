@@ -47,6 +47,3 @@ pub fn rewritten(alloc: Global, bytes: &[u8]) -> Result<Vec<u8>, DekuError>
     let (_rest, header) = Udp::from_bytes(alloc, (bytes, 0))?;
     header.to_bytes(alloc)
 }
-
-#[cfg(test)]
-mod tests;

@@ -33,6 +33,3 @@ fn symmetric_law<T: Symmetric<()>>()
     ensures { IsSymmetric (λ v. T.Part.pieces v tt) T.Part.same (λ v. T.DekuWriter.meaning v tt)
         (T.DekuReader.meaning tt) }
 {}
-
-#[cfg(test)]
-mod tests;

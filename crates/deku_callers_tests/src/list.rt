@@ -1,8 +1,8 @@
 //! Lists of fields, written and read back, as tests.
 
-use super::{five_there_and_back, rewritten};
 use crate::same::{same, same_bytes};
 use deku::ctx::{Endian, Layout, Order, Size};
+use deku_callers::list::{five_there_and_back, rewritten};
 use deku_fields::{Field, Kind, Number};
 use std::test::Fail;
 

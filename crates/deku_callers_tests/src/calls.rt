@@ -1,9 +1,9 @@
 //! Lists of fields in three calls, as tests. Each row says after how many fields the second call
 //! begins, and the third.
 
-use super::{bytes_in_three, five_in_three, read_in_three};
 use crate::same::{same, same_bytes};
 use deku::ctx::{Endian, Layout, Order, Size};
+use deku_callers::calls::{bytes_in_three, five_in_three, read_in_three};
 use deku_fields::{Field, Item, Kind, Number};
 use std::test::Fail;
 

@@ -1,7 +1,7 @@
 //! Frames, written and read back, as tests.
 
-use super::{pair_there_and_back, rewritten};
 use crate::same::{same, same_bytes};
+use deku_callers::frame::{pair_there_and_back, rewritten};
 use deku_fields::frame::Frame;
 use std::test::Fail;
 

@@ -1,7 +1,7 @@
 //! Lengths that are filled in later, as tests with rows.
 
-use super::record_of;
 use crate::same::same_bytes;
+use deku_callers::length::record_of;
 use std::test::Fail;
 
 // A payload of fewer than 256 bytes, and its record.

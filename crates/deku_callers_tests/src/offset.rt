@@ -1,8 +1,8 @@
 //! Offsets that are followed, as tests with rows.
 
-use super::byte_of_record;
 use crate::same::same;
 use deku_bits::error::{DekuError, NeedSize};
+use deku_callers::offset::byte_of_record;
 
 // Bytes, and the byte of the record, or how many bits the input did not have.
 const RECORDS: [(&[u8], Result<u8, usize>); 5] = [

@@ -1,7 +1,7 @@
 //! Maps and sets with a count, as tests with rows.
 
-use super::{kept_once, last_of_two, value_at};
 use crate::same::same;
+use deku_callers::maps::{kept_once, last_of_two, value_at};
 use std::test::Fail;
 
 // Three pairs, a key, and the value at it.

@@ -1,7 +1,7 @@
 //! Headers, written and read back, as tests.
 
-use super::{rewritten, there_and_back};
 use crate::same::{same, same_bytes};
+use deku_callers::record::{rewritten, there_and_back};
 use deku_transport::udp::Udp;
 use std::test::Fail;
 

@@ -1,7 +1,7 @@
 //! What a source has left after a header, as a test.
 
-use super::header_of;
 use crate::same::{same, same_bytes};
+use deku_callers::source::header_of;
 use std::io::Cursor;
 use std::test::Fail;
 

@@ -1,8 +1,8 @@
 //! Numbers with a count, and after a byte that counts them, as tests with rows.
 
-use super::{numbers_of, record_of, record_there_and_back, there_and_back};
 use crate::same::{same, same_bytes};
 use deku::error::{DekuError, NeedSize};
+use deku_callers::counted::{numbers_of, record_of, record_there_and_back, there_and_back};
 use std::test::Fail;
 
 // Numbers, and their record.
