@@ -54,7 +54,7 @@ pub enum Mode {
     Profile,
 }
 
-pub const PEERS: [&str; 8] = ["hand", "kit", "bits", "best", "bytes", "c", "rows", "rust"];
+pub const PEERS: [&str; 9] = ["hand", "stream", "kit", "bits", "best", "bytes", "c", "rows", "rust"];
 
 pub struct Bench {
     pub mode: Mode,

@@ -2,6 +2,7 @@
 
 mod bits;
 mod hand;
+mod stream;
 
 use crate::bench::{both, Bench, Random};
 use crate::calls;
@@ -56,8 +57,8 @@ pub fn udp_headers(bench: &mut Bench, random: &mut Random, size: usize) {
         read "library" calls::dk_udp_unpack, "hand" hand::udp_unpack, "bits" bits::udp_unpack, "best" bits::best::udp_unpack;
         write "library" calls::dk_udp_pack, "hand" hand::udp_pack, "bits" bits::udp_pack, "best" bits::best::udp_pack;);
     both!(bench, "UDP by stream", size, n, udps, wire,
-        read "library" calls::dk_udp_read, "hand" hand::udp_read, "bits" bits::udp_read, "best" bits::best::udp_read;
-        write "library" calls::dk_udp_write, "hand" hand::udp_write, "bits" bits::udp_write, "best" bits::best::udp_write;);
+        read "library" calls::dk_udp_read, "hand" hand::udp_read, "stream" stream::udp_read, "bits" bits::udp_read, "best" bits::best::udp_read;
+        write "library" calls::dk_udp_write, "hand" hand::udp_write, "stream" stream::udp_write, "bits" bits::udp_write, "best" bits::best::udp_write;);
     bench.run("UDP into a vector", size, n, &udps, &wire, &[
         ("library", Box::new(calls::dk_udp_grow)),
         ("hand", Box::new(hand::udp_grow)),
@@ -87,8 +88,8 @@ pub fn ipv4_headers(bench: &mut Bench, random: &mut Random, size: usize) {
         read "library" calls::dk_ipv4_unpack, "hand" hand::ipv4_unpack, "bits" bits::ipv4_unpack, "best" bits::best::ipv4_unpack;
         write "library" calls::dk_ipv4_pack, "hand" hand::ipv4_pack, "bits" bits::ipv4_pack, "best" bits::best::ipv4_pack;);
     both!(bench, "IPv4 by stream", size, n, fronts, wire,
-        read "library" calls::dk_ipv4_read, "hand" hand::ipv4_read, "bits" bits::ipv4_read, "best" bits::best::ipv4_read;
-        write "library" calls::dk_ipv4_write, "hand" hand::ipv4_write, "bits" bits::ipv4_write, "best" bits::best::ipv4_write;);
+        read "library" calls::dk_ipv4_read, "hand" hand::ipv4_read, "stream" stream::ipv4_read, "bits" bits::ipv4_read, "best" bits::best::ipv4_read;
+        write "library" calls::dk_ipv4_write, "hand" hand::ipv4_write, "stream" stream::ipv4_write, "bits" bits::ipv4_write, "best" bits::best::ipv4_write;);
 }
 
 pub fn can_frames(bench: &mut Bench, random: &mut Random, size: usize) {

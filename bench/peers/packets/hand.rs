@@ -27,7 +27,7 @@ pub fn udp_bytes(udp: &UdpFields) -> [u8; 8] {
 }
 
 #[inline(always)]
-fn ipv4(b: &[u8; 20]) -> Option<Ipv4Fields> {
+pub fn ipv4(b: &[u8; 20]) -> Option<Ipv4Fields> {
     if b[0] >> 4 != 4 {
         return None;
     }
@@ -48,7 +48,7 @@ fn ipv4(b: &[u8; 20]) -> Option<Ipv4Fields> {
 }
 
 #[inline(always)]
-fn ipv4_bytes(front: &Ipv4Fields) -> Option<[u8; 20]> {
+pub fn ipv4_bytes(front: &Ipv4Fields) -> Option<[u8; 20]> {
     if front.words > 15 || front.service > 63 || front.congestion > 3 || front.flags > 7 || front.fragment_offset > 0x1fff {
         return None;
     }
