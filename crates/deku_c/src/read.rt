@@ -37,10 +37,8 @@ pub fn read_numbers(
         return Ok(bits);
     }
     let mut reader = Reader::new(alloc, Cursor::new(bytes));
-    match read_each(&mut reader, codes, numbers) {
-        Ok(()) => Ok(reader.bits_read()),
-        Err(refusal) => Err(refusal),
-    }
+    read_each(&mut reader, codes, numbers)?;
+    Ok(reader.bits_read())
 }
 
 // The number of each field, in order, and how many bits they took, if each can be cut from the
@@ -98,10 +96,7 @@ fn read_each<R: Source>(
 {
     read_calls_law();
     for (place, code) in codes.iter().enumerate() {
-        match read_one(reader, *code) {
-            Ok(number) => numbers[place] = number,
-            Err(refusal) => return Err(refusal),
-        }
+        numbers[place] = read_one(reader, *code)?;
     }
     Ok(())
 }
@@ -112,8 +107,6 @@ fn read_one<R: Source>(reader: &mut Reader<R>, code: FieldCode) -> Result<Number
     ensures { Reads R.known (ReadsFields (field_in code ∷ [])) reader.old
         (on_value (λ v. values_of (item_in code v ∷ [])) result) reader.new }
 {
-    match read_field(reader, &code.field()) {
-        Ok(number) => Ok(NumberCode::of(number)),
-        Err(refusal) => Err(refusal),
-    }
+    let number = read_field(reader, &code.field())?;
+    Ok(NumberCode::of(number))
 }
