@@ -1,9 +1,11 @@
 //! Records as bytes and back.
 
+use crate::between::{Between, Body};
 use crate::gre::Gre;
-use crate::lists::{Entry, Late, Log, Pair, Table};
+use crate::padded::{EndianOfId, Padded};
 use crate::shape::Shape;
-use deku::prelude::{DekuContainerRead, DekuContainerWrite, DekuError, NeedSize};
+use crate::sized::{Alone, Sizing, Text, ToEnd, Two};
+use deku::prelude::{DekuContainerWrite, DekuError, NeedSize};
 use deku_messages::ntp::Ntp;
 use deku_symmetry::{Be, SymmetricLast};
 use deku_testing_values::expecting::same;
@@ -74,80 +76,6 @@ fn items_that_a_field_counts(rt: HostRuntime) -> Result<(), Fail> {
     same(&4, &tcp(alloc, 4, &options)?.to_bytes(alloc), &Err(refusal))
 }
 
-fn table(alloc: Global, size: u16) -> Result<Table, Fail> {
-    let entries = [(2, 0x0304), (5, 0x0607)].map(|(kind, value)| Entry { kind, value });
-    Ok(Table {
-        version: 1,
-        size,
-        entries: entries.to_vec(alloc)?,
-        last: 9,
-    })
-}
-
-#[test]
-fn items_that_fill_a_size(rt: HostRuntime) -> Result<(), Fail> {
-    let alloc = rt.alloc();
-    let bytes = [0x10, 0x08, 0x02, 0x03, 0x04, 0x05, 0x06, 0x07, 0x09];
-    expect_both_ways(alloc, (), &table(alloc, 8)?, 72, &bytes)?;
-    let refusal = DekuError::Assertion("content out of step with its size");
-    same(&9, &table(alloc, 9)?.to_bytes(alloc), &Err(refusal))?;
-    let refusal = DekuError::Parse("head without a size");
-    expect_refusal::<Table>(alloc, &[0x10, 0x01, 0x02], refusal, 16)
-}
-
-#[test]
-fn lists_whose_counts_come_first(rt: HostRuntime) -> Result<(), Fail> {
-    let alloc = rt.alloc();
-    let pair = Pair {
-        names: 2,
-        values: 1,
-        name: [0x68, 0x69].to_vec(alloc)?,
-        value: vec![in alloc; Be(0x0102)]?,
-    };
-    let bytes = [0x02, 0x01, 0x68, 0x69, 0x01, 0x02];
-    expect_both_ways(alloc, (), &pair, 48, &bytes)
-}
-
-fn expect_late(alloc: Global, late: &Late, bytes: &[u8]) -> Result<(), Fail> {
-    expect_both_ways(alloc, (), late, bytes.len().saturating_mul(8), bytes)
-}
-
-#[test]
-fn an_option_after_a_list(rt: HostRuntime) -> Result<(), Fail> {
-    let alloc = rt.alloc();
-    let late = Late {
-        sensor: 5,
-        has_time: true,
-        count: 2,
-        values: vec![in alloc; Be(-2), Be(0x0102)]?,
-        time: Some(Be(0x0304_0506)),
-    };
-    let bytes = [0x0B, 0x02, 0xFF, 0xFE, 0x01, 0x02, 0x03, 0x04, 0x05, 0x06];
-    expect_late(alloc, &late, &bytes)?;
-    let without = Late {
-        has_time: false,
-        time: None,
-        ..late
-    };
-    expect_late(alloc, &without, &[0x0A, 0x02, 0xFF, 0xFE, 0x01, 0x02])
-}
-
-#[test]
-fn a_list_up_to_the_end(rt: HostRuntime) -> Result<(), Fail> {
-    let alloc = rt.alloc();
-    let log = Log {
-        version: 3,
-        number: 0x123,
-        words: vec![in alloc; Be(0x0405), Be(0x0607)]?,
-    };
-    let bytes = [0x31, 0x23, 0x04, 0x05, 0x06, 0x07];
-    same(&0, &log.pack_whole(alloc)?.as_slice(), &bytes.as_slice())?;
-    let read = Log::unpack_whole(alloc, &bytes)?;
-    same(&1, &read, &(48, log))?;
-    let ended = DekuError::Incomplete(NeedSize::new(16));
-    same(&2, &Log::from_bytes(alloc, (&bytes[..5], 0)), &Err(ended))
-}
-
 #[test]
 fn fields_that_flags_bring(rt: HostRuntime) -> Result<(), Fail> {
     let alloc = rt.alloc();
@@ -190,4 +118,105 @@ fn kinds_under_an_id(rt: HostRuntime) -> Result<(), Fail> {
     same(&1, &Shape::Unknown(1, 3).to_bytes(alloc), &Err(refusal))?;
     let ended = DekuError::Incomplete(NeedSize::new(12));
     expect_refusal::<Shape>(alloc, &[0x11], ended, 4)
+}
+
+// The record, with its enum of this id.
+fn between(alloc: Global, kind: u8) -> Result<Between, Fail> {
+    let marks = [0x0A, 0x0B].to_vec(alloc)?;
+    let rest = [0xFF].to_vec(alloc)?;
+    Ok(Between {
+        length: 2,
+        marks,
+        kind,
+        body: Body::Number(0x0304),
+        count: 1,
+        rest,
+    })
+}
+
+#[test]
+fn an_enum_between_lists(rt: HostRuntime) -> Result<(), Fail> {
+    let alloc = rt.alloc();
+    let bytes = [0x02, 0x0A, 0x0B, 0x01, 0x03, 0x04, 0x01, 0xFF];
+    expect_both_ways(alloc, (), &between(alloc, 1)?, 64, &bytes)?;
+    let refusal = DekuError::Assertion("kind out of step with its id");
+    same(&2, &between(alloc, 2)?.to_bytes(alloc), &Err(refusal))
+}
+
+#[test]
+fn a_count_that_is_not_kept(rt: HostRuntime) -> Result<(), Fail> {
+    let alloc = rt.alloc();
+    let alone = Alone {
+        items: vec![in alloc; Be(0xDEAD), Be(0xBEEF)]?,
+    };
+    expect_both_ways(alloc, (), &alone, 40, &[0x02, 0xDE, 0xAD, 0xBE, 0xEF])
+}
+
+fn twos(alloc: Global) -> Result<Vec<Two>, Fail> {
+    let twos = [(0xAB, 0xBC), (0xDE, 0xEF)].map(|(first, second)| Two { first, second });
+    Ok(twos.to_vec(alloc)?)
+}
+
+#[test]
+fn lists_of_a_size(rt: HostRuntime) -> Result<(), Fail> {
+    let alloc = rt.alloc();
+    let sized = Sizing {
+        bytes: 4,
+        items: twos(alloc)?,
+    };
+    expect_both_ways(alloc, (), &sized, 40, &[0x04, 0xAB, 0xBC, 0xDE, 0xEF])?;
+    let rest = ToEnd {
+        items: twos(alloc)?,
+    };
+    let bytes = [0xAB, 0xBC, 0xDE, 0xEF];
+    same(&2, &rest.pack_whole(alloc)?.as_slice(), &bytes.as_slice())?;
+    same(&3, &ToEnd::unpack_whole(alloc, &bytes)?, &(32, rest))
+}
+
+// Bytes of a text that do not end with their only zero.
+const TEXTS: [&[u8]; 4] = [&[], &[0x68], &[0x68, 0x00, 0x69, 0x00], &[0x00, 0x68]];
+
+#[test]
+fn texts_that_a_zero_ends(rt: HostRuntime) -> Result<(), Fail> {
+    let alloc = rt.alloc();
+    let mut text = Text {
+        first: 0x0102,
+        bytes: [0x68, 0x69, 0x00].to_vec(alloc)?,
+        last: 0x0304,
+    };
+    let bytes = [0x01, 0x02, 0x68, 0x69, 0x00, 0x03, 0x04];
+    expect_both_ways(alloc, (), &text, 56, &bytes)?;
+    for wrong in TEXTS {
+        text.bytes = wrong.to_vec(alloc)?;
+        let refusal = DekuError::Assertion("items out of step with their end");
+        same(&wrong, &text.to_bytes(alloc), &Err(refusal))?;
+    }
+    let ended = DekuError::Incomplete(NeedSize::new(8));
+    expect_refusal::<Text>(alloc, &bytes[..4], ended, 32)
+}
+
+#[test]
+fn padding_on_each_side(rt: HostRuntime) -> Result<(), Fail> {
+    let alloc = rt.alloc();
+    let padded = Padded {
+        byte: 0xAA,
+        first: 0b10,
+        second: 0b1001,
+    };
+    expect_both_ways(alloc, (), &padded, 32, &[0, 0xAA, 0, 0b1000_1001])?;
+    let refusal = DekuError::Assertion("padding");
+    expect_refusal::<Padded>(alloc, &[0, 0xAA, 1, 0], refusal, 24)
+}
+
+#[test]
+fn ids_in_an_endian_of_their_own(rt: HostRuntime) -> Result<(), Fail> {
+    let alloc = rt.alloc();
+    let endians = [
+        (EndianOfId::Little(1), [0x00, 0x01, 0x01, 0x00]),
+        (EndianOfId::Big { x: 256 }, [0x00, 0x02, 0x01, 0x00]),
+    ];
+    for (value, bytes) in &endians {
+        expect_both_ways(alloc, (), value, 32, bytes)?;
+    }
+    Ok(())
 }

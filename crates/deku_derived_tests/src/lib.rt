@@ -1,21 +1,18 @@
-//! Records that `derive` prints from the descriptions in `records`, and their bytes.
+//! Records that `derive` prints from the descriptions in `records`, and their bytes. Those of
+//! `descriptions` are printed and tested by `tools/derived`.
 #![tactic(auto)]
 
 #[cfg(test)]
-mod block;
+mod between;
 #[cfg(test)]
 mod bytes;
 #[cfg(test)]
-mod frame;
-#[cfg(test)]
 mod gre;
 #[cfg(test)]
-mod lists;
-#[cfg(test)]
-mod nested;
+mod padded;
 #[cfg(test)]
 mod places;
 #[cfg(test)]
-mod report;
-#[cfg(test)]
 mod shape;
+#[cfg(test)]
+mod sized;

@@ -1,14 +1,11 @@
 //! Records that are refused, and where.
 
-use crate::frame::{Frame, Range};
 use crate::gre::Gre;
-use deku_located::{Located, OnePart, unpack_located};
+use deku_located::{Located, unpack_located};
 use deku_messages::ntp::Ntp;
 use deku_transport::tcp::Tcp;
 use std::alloc::{AllocError, Global};
 use std::test::Fail;
-
-impl OnePart for Range {}
 
 // Records, their bytes, and what is said of these: nothing, if there is a record at their start.
 const ROWS: &str = "ntp||Not enough data, need 2 bits (or 1 bytes), in leap, at bit 0
@@ -20,14 +17,7 @@ gre|900008001234|Not enough data, need 32 bits (or 4 bytes), in checksum, at bit
 gre|3000080000000007|Not enough data, need 32 bits (or 4 bytes), in sequence, at bit 64
 tcp|00000000000000000000000050000000000000000000|
 tcp|0000000000000000000000004000000000000000|Parse error: head without a count, in options, at bit 160
-tcp|000000000000000000000000600000000000000001|Not enough data, need 8 bits (or 1 bytes), in options, at bit 160
-frame|a52105060000000003|
-frame|a4|magic of Frame, in magic, at bit 0
-frame|a531|version, in version, at bit 8
-frame|a52105|Not enough data, need 8 bits (or 1 bytes), in range, at bit 16
-frame|a5210504|high, in range, at bit 16
-frame|a521050600|Not enough data, need 16 bits (or 2 bytes), in pair, at bit 32
-frame|a52105060000000403|padding, in padding, at bit 56";
+tcp|000000000000000000000000600000000000000001|Not enough data, need 8 bits (or 1 bytes), in options, at bit 160";
 
 #[test]
 fn refusals_name_a_field(rt: HostRuntime) -> Result<(), Fail> {
@@ -47,11 +37,7 @@ fn said_of(alloc: Global, name: &str, bytes: &[u8]) -> Result<String, AllocError
     match name {
         "ntp" => told(alloc, &unpack_located::<Ntp>(alloc, bytes, &Ntp::FIELDS)),
         "gre" => told(alloc, &unpack_located::<Gre>(alloc, bytes, &Gre::FIELDS)),
-        "tcp" => told(alloc, &unpack_located::<Tcp>(alloc, bytes, &Tcp::FIELDS)),
-        _ => told(
-            alloc,
-            &unpack_located::<Frame>(alloc, bytes, &Frame::FIELDS),
-        ),
+        _ => told(alloc, &unpack_located::<Tcp>(alloc, bytes, &Tcp::FIELDS)),
     }
 }
 

@@ -9,12 +9,15 @@ use std::io::{BufReader, BufWriter, Write};
 use std::process::ExitCode;
 use std::{env, io};
 
+#[cfg(test)]
 mod batch;
+#[cfg(test)]
 mod event;
 mod log;
 mod sample;
 #[cfg(test)]
 mod tests;
+#[cfg(test)]
 mod timed;
 
 fn main(rt: HostRuntime) -> io::Result<ExitCode> {

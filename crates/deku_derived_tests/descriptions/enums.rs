@@ -17,18 +17,6 @@ enum Numbered {
     Second,
 }
 
-/// Ids of one endian, and fields of another.
-#[deku(id_type = "u16", id_endian = "big", endian = "little")]
-enum EndianOfId {
-    #[deku(id = "0x01")]
-    Little(u16),
-    #[deku(id = "0x02")]
-    Big {
-        #[deku(endian = "big")]
-        x: u16,
-    },
-}
-
 /// A range of ids, and all others.
 #[deku(id_type = "u8")]
 enum Patterns {

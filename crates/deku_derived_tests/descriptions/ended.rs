@@ -3,16 +3,6 @@
 /// The item that ends a text.
 const END: u8 = 0;
 
-/// A text of C between two numbers.
-#[deku(endian = "big")]
-struct Text {
-    first: u16,
-    /// The bytes, with the zero that ends them.
-    #[deku(until = "|byte: &u8| *byte == END")]
-    bytes: Vec<u8>,
-    last: u16,
-}
-
 /// Numbers up to the first of at least 0x8000.
 #[deku(endian = "little")]
 struct Numbers {

@@ -28,33 +28,6 @@ struct UpdatingTwo {
     values: Vec<u16>,
 }
 
-/// Items after their number, which the record does not keep.
-struct Alone {
-    #[deku(temp, temp_value = "items.len() as u8")]
-    num_items: u8,
-    #[deku(count = "num_items", endian = "big")]
-    items: Vec<u16>,
-}
-
-/// Two bytes.
-struct Two {
-    first: u8,
-    second: u8,
-}
-
-/// Items of as many bytes as a field says.
-struct Sizing {
-    bytes: u8,
-    #[deku(bytes_read = "bytes")]
-    items: Vec<Two>,
-}
-
-/// Items up to the end.
-struct ToEnd {
-    #[deku(read_all)]
-    items: Vec<Two>,
-}
-
 /// A field that is there if another one says so.
 struct Whether {
     first: u8,
