@@ -97,10 +97,8 @@ fn write_over(items: &[Item], all: &mut [u8]) -> Result<(), DekuError>
         → 8 * length bytes < 2 ^ 64 → result ≡ Ok tt }
 {
     let mut writer = Writer::new(Cursor::new(all));
-    match write_list(&mut writer, items) {
-        Ok(()) => writer.finalize(),
-        Err(refusal) => Err(refusal),
-    }
+    write_list(&mut writer, items)?;
+    writer.finalize()
 }
 
 // ---- lists that are read and written

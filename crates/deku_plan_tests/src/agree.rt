@@ -52,10 +52,8 @@ const NO_PLAN: DekuError = DekuError::Assertion("no plan of three fields");
 
 // The values that a call left, unless it failed.
 fn unless_failed(answer: Result<(), DekuError>, values: [Number; 3]) -> Values {
-    match answer {
-        Ok(()) => Ok(values),
-        Err(error) => Err(error),
-    }
+    answer?;
+    Ok(values)
 }
 
 // The answer of a call. If memory ran out, the test fails.

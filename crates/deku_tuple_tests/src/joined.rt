@@ -315,10 +315,10 @@ fn one_by_one<T: Numbers>(bytes: &[u8], start: usize) -> Result<Reading, Fail> {
     let _front = items.next(start, Big, false)?;
     let answer = items.each(&T::items())?;
     let bits_read = items.taken;
-    let after = match answer {
-        Ok(_) => items.next(3, Big, true)?,
-        Err(error) => Err(error),
-    };
+    let mut after = answer.map(|_| 0);
+    if after.is_ok() {
+        after = items.next(3, Big, true)?;
+    }
     Ok(Reading {
         answer,
         bits_read,
@@ -332,10 +332,7 @@ fn tuple<T: Numbers, R: Source>(reader: &mut Reader<R>, start: usize) -> Reading
 {
     let order = T::order();
     let _front: Result<u8, DekuError> = next(reader, (Big, BitSize(start), order));
-    let answer = match next::<T, _, _>(reader, ()) {
-        Ok(items) => Ok(items.numbers()),
-        Err(error) => Err(error),
-    };
+    let answer = next::<T, _, _>(reader, ()).map(|items| items.numbers());
     let bits_read = reader.bits_read();
     Reading {
         answer,

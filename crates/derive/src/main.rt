@@ -205,11 +205,7 @@ fn read(rt: &HostRuntime, name: &str) -> io::Result<Option<String>> {
 // Writes a module to a new file, which then takes the old one's place.
 fn write(rt: &HostRuntime, path: &str, text: &str) -> io::Result<bool> {
     let new = format!(in rt.alloc(); "{path}.new")?;
-    let written = match fs::write(rt, new.as_str(), text) {
-        Ok(()) => fs::rename(rt, new.as_str(), path),
-        Err(error) => Err(error),
-    };
-    match written {
+    match replace(rt, new.as_str(), path, text) {
         Ok(()) => Ok(true),
         Err(error) => {
             let _ = fs::remove_file(rt, new.as_str());
@@ -217,6 +213,11 @@ fn write(rt: &HostRuntime, path: &str, text: &str) -> io::Result<bool> {
             Ok(false)
         }
     }
+}
+
+fn replace(rt: &HostRuntime, new: &str, path: &str, text: &str) -> io::Result<()> {
+    fs::write(rt, new, text)?;
+    fs::rename(rt, new, path)
 }
 
 // Whether a file holds this module. If not, the first line that differs is printed.
