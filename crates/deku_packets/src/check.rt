@@ -118,10 +118,8 @@ pub fn first_change(
         bytes.now packet.now.layers.items) }
 {
     for placed in &packet.layers {
-        match layer_change(alloc, bytes, placed) {
-            Ok(None) => {}
-            Ok(Some(index)) => return Ok(Some(index)),
-            Err(fault) => return Err(fault),
+        if let Some(index) = layer_change(alloc, bytes, placed)? {
+            return Ok(Some(index));
         }
     }
     Ok(None)
@@ -139,10 +137,7 @@ fn layer_change(alloc: Global, bytes: &[u8], placed: &Placed) -> Result<Option<u
     if let Layer::Rest = placed.layer {
         return Ok(None);
     }
-    let written = match padded_bytes(&placed.layer, alloc, ()) {
-        Ok(written) => written,
-        Err(fault) => return Err(fault),
-    };
+    let written = padded_bytes(&placed.layer, alloc, ())?;
     let read = between(bytes, placed.start, placed.end);
     match first_difference(read, written.as_slice()) {
         None => Ok(None),
