@@ -26,9 +26,8 @@ use deku_writing::DekuWriter;
 use std::alloc::Global;
 use std::io::{Cursor, ErrorKind};
 
-/// A type whose values are read from the start of an input, with a new reader for each.
-///
-/// The calls have their bodies here; a type states `impl DekuContainerRead for Record {}`.
+/// A type whose values are read from the start of an input, with a new reader for each: every type
+/// that is read under `()`.
 pub trait DekuContainerRead: DekuReader<()> {
     /// Skips this many bits of a source and reads the value after them. Returns the count of bits
     /// that this took, including the skipped ones, and the value.
@@ -99,6 +98,8 @@ pub trait DekuContainerRead: DekuReader<()> {
     }
 }
 
+impl<T: DekuReader<()>> DekuContainerRead for T {}
+
 // Skips this many bits in `Msb0`, and reads a value.
 fn read_behind<T: DekuReader<()>, R: Source>(
     reader: &mut Reader<R>,
@@ -113,9 +114,8 @@ fn read_behind<T: DekuReader<()>, R: Source>(
     T::from_reader_with_ctx(reader, ())
 }
 
-/// A type whose values are written as bytes or bits, with a new writer for each.
-///
-/// The calls have their bodies here; a type states `impl DekuContainerWrite for Record {}`.
+/// A type whose values are written as bytes or bits, with a new writer for each: every type that is
+/// written under `()`.
 pub trait DekuContainerWrite: DekuWriter<()> {
     /// The bytes of the value, the last one filled with zeros. The vector may have capacity to
     /// spare.
@@ -181,6 +181,8 @@ pub trait DekuContainerWrite: DekuWriter<()> {
         joined_bits(alloc, bytes.as_slice(), &pending)
     }
 }
+
+impl<T: DekuWriter<()>> DekuContainerWrite for T {}
 
 /// The bytes of a value under a context, with the last one filled with zeros. The vector may have
 /// capacity to spare.

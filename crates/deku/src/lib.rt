@@ -1,10 +1,10 @@
 //! Bit-level reading and writing of binary records.
 //!
 //! A record implements [`DekuReader`] and [`DekuWriter`] by hand, field by field, each under a
-//! context that says how it is laid out. An empty `impl` of [`DekuContainerRead`] and
-//! [`DekuContainerWrite`] then adds the calls for whole values from bytes and as bytes. Each
-//! implementation names its meaning, made of those of its fields; its contract is that of its
-//! trait.
+//! context that says how it is laid out. If that is `()`, it has the calls of
+//! [`DekuContainerRead`] and [`DekuContainerWrite`] too, for whole values from bytes and as bytes.
+//! Each implementation names its meaning, made of those of its fields; its contract is that of
+//! its trait.
 //!
 //! ```text
 //! /// Four bits, four bits and two bytes, all with their high bits first.
@@ -24,8 +24,6 @@
 //!         Ok(Head { halves, number })
 //!     }
 //! }
-//!
-//! impl DekuContainerRead for Head {}
 //!
 //! let ((rest, bits), head) = Head::from_bytes(alloc, (&[0x69, 0xBE, 0xEF, 0x01], 0))?;
 //! // (6, 9), 0xBEEF; the rest is 01

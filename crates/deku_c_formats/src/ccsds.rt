@@ -8,9 +8,7 @@ ghost use Rattle.deku.specs.Shapes.{Shows};
 ghost use Rattle.deku_symmetry.specs.Fields.{be, msb};
 
 use deku::device::{Sink, Source};
-use deku::prelude::{
-    DekuContainerRead, DekuContainerWrite, DekuError, DekuReader, DekuWriter, Reader, Writer,
-};
+use deku::prelude::{DekuError, DekuReader, DekuWriter, Reader, Writer};
 use deku_c_records::ForC;
 use deku_symmetry::{Be, FromParts, Msb, Record, ToParts, read_record, write_record};
 use std::alloc::Global;
@@ -150,10 +148,6 @@ impl Record<()> for SpacePacket {
     ghost writes = { λ c v b s r u m. m };
 }
 
-impl DekuContainerRead for SpacePacket {}
-
-impl DekuContainerWrite for SpacePacket {}
-
 /// A sample of telemetry.
 #[repr(C)]
 #[derive(Clone, Copy)]
@@ -219,10 +213,6 @@ impl Record<()> for TelemetrySample {
 
     ghost writes = { λ c v b s r u m. m };
 }
-
-impl DekuContainerRead for TelemetrySample {}
-
-impl DekuContainerWrite for TelemetrySample {}
 
 /// Reads the record from the first byte on. Returns 0, or the number of the error; the record then
 /// stays as it was.

@@ -9,9 +9,7 @@ ghost use Rattle.deku.specs.Shapes.{Shows};
 ghost use Rattle.deku_symmetry.specs.Fields.{be};
 
 use deku::device::{Sink, Source};
-use deku::prelude::{
-    DekuContainerRead, DekuContainerWrite, DekuError, DekuReader, DekuWriter, Reader, Writer,
-};
+use deku::prelude::{DekuError, DekuReader, DekuWriter, Reader, Writer};
 use deku_c_records::ForC;
 use deku_symmetry::{
     Be, Constant, ConstantLaw, FromParts, Magic, Msb, Record, ToParts, read_record, write_record,
@@ -251,10 +249,6 @@ impl Record<()> for ElfHeaderBig {
     ghost writes = { λ c v b s r u m. m };
 }
 
-impl DekuContainerRead for ElfHeaderBig {}
-
-impl DekuContainerWrite for ElfHeaderBig {}
-
 /// A program header: which part of the file is loaded, and where.
 #[repr(C)]
 #[derive(Clone, Copy)]
@@ -394,10 +388,6 @@ impl Record<()> for ElfSegmentBig {
 
     ghost writes = { λ c v b s r u m. m };
 }
-
-impl DekuContainerRead for ElfSegmentBig {}
-
-impl DekuContainerWrite for ElfSegmentBig {}
 
 /// Reads the record from the first byte on. Returns 0, or the number of the error; the record then
 /// stays as it was.

@@ -9,9 +9,7 @@ ghost use Rattle.deku.specs.Shapes.{Shows};
 ghost use Rattle.deku_symmetry.specs.Fields.{le};
 
 use deku::device::{Sink, Source};
-use deku::prelude::{
-    DekuContainerRead, DekuContainerWrite, DekuError, DekuReader, DekuWriter, Reader, Writer,
-};
+use deku::prelude::{DekuError, DekuReader, DekuWriter, Reader, Writer};
 use deku_c_records::ForC;
 use deku_symmetry::{
     Constant, ConstantLaw, FromParts, Le, Magic, Msb, Record, ToParts, read_record, write_record,
@@ -251,10 +249,6 @@ impl Record<()> for ElfHeaderLittle {
     ghost writes = { λ c v b s r u m. m };
 }
 
-impl DekuContainerRead for ElfHeaderLittle {}
-
-impl DekuContainerWrite for ElfHeaderLittle {}
-
 /// A program header: which part of the file is loaded, and where.
 #[repr(C)]
 #[derive(Clone, Copy)]
@@ -394,10 +388,6 @@ impl Record<()> for ElfSegmentLittle {
 
     ghost writes = { λ c v b s r u m. m };
 }
-
-impl DekuContainerRead for ElfSegmentLittle {}
-
-impl DekuContainerWrite for ElfSegmentLittle {}
 
 /// Reads the record from the first byte on. Returns 0, or the number of the error; the record then
 /// stays as it was.

@@ -9,9 +9,7 @@ ghost use Rattle.deku.specs.Shapes.{Shows};
 ghost use Rattle.deku_symmetry.specs.Fields.{lsb};
 
 use deku::device::{Sink, Source};
-use deku::prelude::{
-    DekuContainerRead, DekuContainerWrite, DekuError, DekuReader, DekuWriter, Reader, Writer,
-};
+use deku::prelude::{DekuError, DekuReader, DekuWriter, Reader, Writer};
 use deku_c_records::ForC;
 use deku_symmetry::{FromParts, Lsb, Record, ToParts, read_record, write_record};
 use std::alloc::Global;
@@ -130,10 +128,6 @@ impl Record<()> for RiscvRegister {
     ghost writes = { λ c v b s r u m. m };
 }
 
-impl DekuContainerRead for RiscvRegister {}
-
-impl DekuContainerWrite for RiscvRegister {}
-
 /// An operation on a register and a number (I), codes 0x03, 0x0F, 0x13, 0x67 and 0x73.
 #[repr(C)]
 #[derive(Clone, Copy)]
@@ -226,10 +220,6 @@ impl Record<()> for RiscvImmediate {
 
     ghost writes = { λ c v b s r u m. m };
 }
-
-impl DekuContainerRead for RiscvImmediate {}
-
-impl DekuContainerWrite for RiscvImmediate {}
 
 /// A store (S), code 0x23. Its offset in bytes is `high * 32 + low`.
 #[repr(C)]
@@ -342,10 +332,6 @@ impl Record<()> for RiscvStore {
 
     ghost writes = { λ c v b s r u m. m };
 }
-
-impl DekuContainerRead for RiscvStore {}
-
-impl DekuContainerWrite for RiscvStore {}
 
 /// Reads the record from the first byte on. Returns 0, or the number of the error; the record then
 /// stays as it was.

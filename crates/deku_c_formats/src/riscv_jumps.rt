@@ -8,9 +8,7 @@ ghost use Rattle.deku.specs.Shapes.{Shows};
 ghost use Rattle.deku_symmetry.specs.Fields.{lsb};
 
 use deku::device::{Sink, Source};
-use deku::prelude::{
-    DekuContainerRead, DekuContainerWrite, DekuError, DekuReader, DekuWriter, Reader, Writer,
-};
+use deku::prelude::{DekuError, DekuReader, DekuWriter, Reader, Writer};
 use deku_c_records::ForC;
 use deku_symmetry::{FromParts, Lsb, Record, ToParts, read_record, write_record};
 use std::alloc::Global;
@@ -153,10 +151,6 @@ impl Record<()> for RiscvBranch {
     ghost writes = { λ c v b s r u m. m };
 }
 
-impl DekuContainerRead for RiscvBranch {}
-
-impl DekuContainerWrite for RiscvBranch {}
-
 /// The high bits of a number (U), codes 0x17 and 0x37.
 #[repr(C)]
 #[derive(Clone, Copy)]
@@ -230,10 +224,6 @@ impl Record<()> for RiscvUpper {
 
     ghost writes = { λ c v b s r u m. m };
 }
-
-impl DekuContainerRead for RiscvUpper {}
-
-impl DekuContainerWrite for RiscvUpper {}
 
 /// A jump (J), code 0x6F. Its offset in units of two bytes is
 /// `sign * 524288 + high * 2048 + middle * 1024 + low`.
@@ -347,10 +337,6 @@ impl Record<()> for RiscvJump {
 
     ghost writes = { λ c v b s r u m. m };
 }
-
-impl DekuContainerRead for RiscvJump {}
-
-impl DekuContainerWrite for RiscvJump {}
 
 /// Reads the record from the first byte on. Returns 0, or the number of the error; the record then
 /// stays as it was.

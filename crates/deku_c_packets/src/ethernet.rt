@@ -8,9 +8,7 @@ ghost use Rattle.deku.specs.Shapes.{Shows};
 ghost use Rattle.deku_symmetry.specs.Fields.{be, msb};
 
 use deku::device::{Sink, Source};
-use deku::prelude::{
-    DekuContainerRead, DekuContainerWrite, DekuError, DekuReader, DekuWriter, Reader, Writer,
-};
+use deku::prelude::{DekuError, DekuReader, DekuWriter, Reader, Writer};
 use deku_c_records::ForC;
 use deku_symmetry::{Be, FromParts, Msb, Record, ToParts, read_record, write_record};
 use std::alloc::Global;
@@ -89,10 +87,6 @@ impl Record<()> for EthernetHeader {
 
     ghost writes = { λ c v b s r u m. m };
 }
-
-impl DekuContainerRead for EthernetHeader {}
-
-impl DekuContainerWrite for EthernetHeader {}
 
 /// The tag of a virtual network, after the kind 0x8100 or 0x88A8.
 #[repr(C)]
@@ -180,10 +174,6 @@ impl Record<()> for VlanTag {
 
     ghost writes = { λ c v b s r u m. m };
 }
-
-impl DekuContainerRead for VlanTag {}
-
-impl DekuContainerWrite for VlanTag {}
 
 /// Reads the record from the first byte on. Returns 0, or the number of the error; the record then
 /// stays as it was.

@@ -8,9 +8,7 @@ ghost use Rattle.deku.specs.Shapes.{Shows};
 ghost use Rattle.deku_symmetry.specs.Fields.{be, msb};
 
 use deku::device::{Sink, Source};
-use deku::prelude::{
-    DekuContainerRead, DekuContainerWrite, DekuError, DekuReader, DekuWriter, Reader, Writer,
-};
+use deku::prelude::{DekuError, DekuReader, DekuWriter, Reader, Writer};
 use deku_c_records::ForC;
 use deku_symmetry::{
     Assert, Be, Check, CheckLaw, FromParts, Msb, Record, ToParts, read_record, write_record,
@@ -232,10 +230,6 @@ impl Record<()> for Ipv4 {
 
     ghost writes = { λ c v b s r u m. m };
 }
-
-impl DekuContainerRead for Ipv4 {}
-
-impl DekuContainerWrite for Ipv4 {}
 
 /// Reads the record from the first byte on. Returns 0, or the number of the error; the record then
 /// stays as it was.

@@ -9,9 +9,7 @@ ghost use Rattle.deku.specs.Shapes.{Shows};
 ghost use Rattle.deku_symmetry.specs.Fields.{be, le};
 
 use deku::device::{Sink, Source};
-use deku::prelude::{
-    DekuContainerRead, DekuContainerWrite, DekuError, DekuReader, DekuWriter, Reader, Writer,
-};
+use deku::prelude::{DekuError, DekuReader, DekuWriter, Reader, Writer};
 use deku_c_records::ForC;
 use deku_symmetry::{
     Assert, Be, Check, CheckLaw, FromParts, Le, Record, ToParts, read_record, write_record,
@@ -161,10 +159,6 @@ impl Record<()> for PcapHeaderLittle {
     ghost writes = { λ c v b s r u m. m };
 }
 
-impl DekuContainerRead for PcapHeaderLittle {}
-
-impl DekuContainerWrite for PcapHeaderLittle {}
-
 /// The header of a packet, the low byte of each number first.
 #[repr(C)]
 #[derive(Clone, Copy)]
@@ -249,10 +243,6 @@ impl Record<()> for PcapPacketLittle {
 
     ghost writes = { λ c v b s r u m. m };
 }
-
-impl DekuContainerRead for PcapPacketLittle {}
-
-impl DekuContainerWrite for PcapPacketLittle {}
 
 /// The header of a file, the high byte of each number first.
 #[repr(C)]
@@ -397,10 +387,6 @@ impl Record<()> for PcapHeaderBig {
     ghost writes = { λ c v b s r u m. m };
 }
 
-impl DekuContainerRead for PcapHeaderBig {}
-
-impl DekuContainerWrite for PcapHeaderBig {}
-
 /// The header of a packet, the high byte of each number first.
 #[repr(C)]
 #[derive(Clone, Copy)]
@@ -485,10 +471,6 @@ impl Record<()> for PcapPacketBig {
 
     ghost writes = { λ c v b s r u m. m };
 }
-
-impl DekuContainerRead for PcapPacketBig {}
-
-impl DekuContainerWrite for PcapPacketBig {}
 
 /// Reads the record from the first byte on. Returns 0, or the number of the error; the record then
 /// stays as it was.

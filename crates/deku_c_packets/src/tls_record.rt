@@ -8,9 +8,7 @@ ghost use Rattle.deku.specs.Shapes.{Shows};
 ghost use Rattle.deku_symmetry.specs.Fields.{be};
 
 use deku::device::{Sink, Source};
-use deku::prelude::{
-    DekuContainerRead, DekuContainerWrite, DekuError, DekuReader, DekuWriter, Reader, Writer,
-};
+use deku::prelude::{DekuError, DekuReader, DekuWriter, Reader, Writer};
 use deku_c_records::ForC;
 use deku_symmetry::{Be, FromParts, Record, ToParts, read_record, write_record};
 use std::alloc::Global;
@@ -88,10 +86,6 @@ impl Record<()> for TlsRecord {
 
     ghost writes = { λ c v b s r u m. m };
 }
-
-impl DekuContainerRead for TlsRecord {}
-
-impl DekuContainerWrite for TlsRecord {}
 
 /// Reads the record from the first byte on. Returns 0, or the number of the error; the record then
 /// stays as it was.

@@ -29,9 +29,7 @@ ghost use Rattle.deku_pieces.specs.declared.either.Either.TheVariants as either;
 ghost use Rattle.deku_capture.specs.declared.pcap.Start.TheVariants as start_kinds;
 
 use deku::device::{Sink, Source};
-use deku::prelude::{
-    DekuContainerRead, DekuContainerWrite, DekuError, DekuReader, DekuWriter, Reader, Writer,
-};
+use deku::prelude::{DekuError, DekuReader, DekuWriter, Reader, Writer};
 use deku_symmetry::{
     Be, Either, Enum, FromParts, Kind, Le, MsbEnum, Record, ToParts, read_record, write_record,
 };
@@ -149,10 +147,6 @@ impl Record<()> for Start {
     ghost writes = { λ c v b s r u m. m };
 }
 
-impl DekuContainerRead for Start {}
-
-impl DekuContainerWrite for Start {}
-
 /// The header of a file after its magic number, high bytes first.
 #[derive(Debug, Clone, Copy, PartialEq, Eq)]
 pub struct BigFields {
@@ -252,10 +246,6 @@ impl Record<()> for BigFields {
 
     ghost writes = { λ c v b s r u m. m };
 }
-
-impl DekuContainerRead for BigFields {}
-
-impl DekuContainerWrite for BigFields {}
 
 /// The header of a file after its magic number, low bytes first.
 #[derive(Debug, Clone, Copy, PartialEq, Eq)]
@@ -357,10 +347,6 @@ impl Record<()> for LittleFields {
     ghost writes = { λ c v b s r u m. m };
 }
 
-impl DekuContainerRead for LittleFields {}
-
-impl DekuContainerWrite for LittleFields {}
-
 /// The header of a packet, high bytes first.
 #[derive(Debug, Clone, Copy, PartialEq, Eq)]
 pub struct BigPacket {
@@ -445,10 +431,6 @@ impl Record<()> for BigPacket {
     ghost writes = { λ c v b s r u m. m };
 }
 
-impl DekuContainerRead for BigPacket {}
-
-impl DekuContainerWrite for BigPacket {}
-
 /// The header of a packet, low bytes first.
 #[derive(Debug, Clone, Copy, PartialEq, Eq)]
 pub struct LittlePacket {
@@ -532,7 +514,3 @@ impl Record<()> for LittlePacket {
 
     ghost writes = { λ c v b s r u m. m };
 }
-
-impl DekuContainerRead for LittlePacket {}
-
-impl DekuContainerWrite for LittlePacket {}

@@ -8,7 +8,7 @@ ghost use Rattle.deku_pieces.proofs.Turned.{shown_symmetric};
 use deku::device::{Sink, Source};
 use deku::reader::Reader;
 use deku::writer::Writer;
-use deku::{DekuContainerRead, DekuContainerWrite, DekuError, DekuReader, DekuWriter};
+use deku::{DekuError, DekuReader, DekuWriter};
 use deku_symmetry::{FromParts, Part, Symmetric, ToParts};
 
 /// A record that is read and written as its parts. It has `pack`, `unpack`, `to_bytes` and
@@ -53,16 +53,6 @@ where
         self.0.parts().to_writer(writer, ctx)
     }
 }
-
-impl<E: FromParts> DekuContainerRead for Coded<E>
-where
-    E::Parts: DekuReader<()>,
-{}
-
-impl<E: ToParts> DekuContainerWrite for Coded<E>
-where
-    E::Parts: DekuWriter<()>,
-{}
 
 /// The pieces of the parts.
 impl<E: FromParts> Part<()> for Coded<E>

@@ -8,9 +8,7 @@ use deku::ctx::Endian::Big;
 use deku::ctx::Order::Lsb0;
 use deku::ctx::{BitSize, ByteSize, Endian, Order};
 use deku::device::{Sink, Source};
-use deku::prelude::{
-    DekuContainerRead, DekuContainerWrite, DekuError, DekuReader, DekuWriter, Reader, Writer,
-};
+use deku::prelude::{DekuError, DekuReader, DekuWriter, Reader, Writer};
 
 // The head of a file system's node: all fields with their low bits first.
 #[derive(Debug, PartialEq, Eq, Drop)]
@@ -60,10 +58,6 @@ impl DekuWriter<()> for Node {
         self.numbers.to_writer(writer, Lsb0)
     }
 }
-
-impl DekuContainerRead for Node {}
-
-impl DekuContainerWrite for Node {}
 
 // A record inside a record: a byte, three flags and five bits, the high bits first.
 #[derive(Debug, PartialEq, Eq, Drop)]
@@ -154,10 +148,6 @@ impl DekuWriter<()> for Parent {
     }
 }
 
-impl DekuContainerRead for Parent {}
-
-impl DekuContainerWrite for Parent {}
-
 // Thirteen low bits, and the three above them.
 #[derive(Debug, PartialEq, Eq, Drop)]
 pub struct LsbField {
@@ -191,10 +181,6 @@ impl DekuWriter<()> for LsbField {
     }
 }
 
-impl DekuContainerRead for LsbField {}
-
-impl DekuContainerWrite for LsbField {}
-
 // Two bytes of a wider number, and one byte.
 #[derive(Debug, PartialEq, Eq, Drop)]
 pub struct Bytes {
@@ -226,7 +212,3 @@ impl DekuWriter<()> for Bytes {
         self.one.to_writer(writer, ())
     }
 }
-
-impl DekuContainerRead for Bytes {}
-
-impl DekuContainerWrite for Bytes {}

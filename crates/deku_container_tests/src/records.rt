@@ -13,9 +13,7 @@ use deku::ctx::Endian::Big;
 use deku::ctx::Order::Lsb0;
 use deku::ctx::{BitSize, Endian};
 use deku::device::{Sink, Source};
-use deku::prelude::{
-    DekuContainerRead, DekuContainerWrite, DekuError, DekuReader, DekuWriter, Reader, Writer,
-};
+use deku::prelude::{DekuError, DekuReader, DekuWriter, Reader, Writer};
 
 // One byte.
 #[derive(Debug, PartialEq, Eq, Drop)]
@@ -44,10 +42,6 @@ impl DekuWriter<()> for Octet {
     }
 }
 
-impl DekuContainerRead for Octet {}
-
-impl DekuContainerWrite for Octet {}
-
 // Two bytes, the high one first.
 #[derive(Debug, PartialEq, Eq, Drop)]
 pub struct Pair {
@@ -74,10 +68,6 @@ impl DekuWriter<()> for Pair {
         self.value.to_writer(writer, Big)
     }
 }
-
-impl DekuContainerRead for Pair {}
-
-impl DekuContainerWrite for Pair {}
 
 // Three low bits.
 #[derive(Debug, PartialEq, Eq, Drop)]
@@ -111,10 +101,6 @@ impl DekuWriter<()> for Low {
     }
 }
 
-impl DekuContainerRead for Low {}
-
-impl DekuContainerWrite for Low {}
-
 // Four bits, four bits and one bit.
 #[derive(Debug, PartialEq, Eq, Drop)]
 pub struct Nine {
@@ -146,10 +132,6 @@ impl DekuWriter<()> for Nine {
         self.flag.to_writer(writer, BitSize(1))
     }
 }
-
-impl DekuContainerRead for Nine {}
-
-impl DekuContainerWrite for Nine {}
 
 // Two halves of a byte, and two bytes, all with their high bits first.
 #[derive(Debug, PartialEq, Eq, Drop)]
@@ -183,10 +165,6 @@ impl DekuWriter<()> for Head {
     }
 }
 
-impl DekuContainerRead for Head {}
-
-impl DekuContainerWrite for Head {}
-
 // No fields.
 #[derive(Debug, PartialEq, Eq, Drop)]
 pub struct Empty {}
@@ -209,7 +187,3 @@ impl DekuWriter<()> for Empty {
         Ok(())
     }
 }
-
-impl DekuContainerRead for Empty {}
-
-impl DekuContainerWrite for Empty {}

@@ -6,9 +6,7 @@ ghost use Rattle.deku.specs.declared.ctx.Endian.TheVariants.{Big};
 use deku::ctx::Endian::Big;
 use deku::ctx::{BitSize, Endian};
 use deku::device::{Sink, Source};
-use deku::prelude::{
-    DekuContainerRead, DekuContainerWrite, DekuError, DekuReader, DekuWriter, Reader, Writer,
-};
+use deku::prelude::{DekuError, DekuReader, DekuWriter, Reader, Writer};
 
 /// Four bits of a sensor's number, four of its state, and two bytes of a value, all with their high
 /// bits first.
@@ -50,10 +48,6 @@ impl DekuWriter<()> for Sample {
         self.value.to_writer(writer, Big)
     }
 }
-
-impl DekuContainerRead for Sample {}
-
-impl DekuContainerWrite for Sample {}
 
 #[cfg(test)]
 mod tests;

@@ -71,9 +71,7 @@ const PARTS: [&str; 56] = [
 const CONTEXTS: [&str; 4] = ["BitSize", "ByteSize", "Endian", "Order"];
 
 // The names of deku.
-const PRELUDE: [&str; 8] = [
-    "DekuContainerRead",
-    "DekuContainerWrite",
+const PRELUDE: [&str; 6] = [
     "DekuError",
     "DekuReader",
     "DekuUpdate",

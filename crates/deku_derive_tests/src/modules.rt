@@ -27,7 +27,7 @@ ghost use Rattle.deku_symmetry.specs.Fields.{be, msb};
 
 use deku::device::{Sink, Source};
 use deku::prelude::{
-    DekuContainerRead, DekuContainerWrite, DekuError, DekuReader, DekuWriter, Reader, Writer,
+    DekuError, DekuReader, DekuWriter, Reader, Writer,
 };
 use deku_symmetry::{Be, FromParts, Msb, Record, ToParts, read_record, write_record};
 
@@ -120,9 +120,6 @@ impl Record<()> for Udp {
     ghost writes = { λ c v b s r u m. m };
 }
 
-impl DekuContainerRead for Udp {}
-
-impl DekuContainerWrite for Udp {}
 ";
 
 const HOST: &str = "#[deku(bit_order = \"lsb\")]
@@ -150,7 +147,7 @@ ghost use Rattle.deku_symmetry.specs.Fields.{be, le, lsb, msb_le};
 
 use deku::device::{Sink, Source};
 use deku::prelude::{
-    DekuContainerRead, DekuContainerWrite, DekuError, DekuReader, DekuWriter, Reader, Writer,
+    DekuError, DekuReader, DekuWriter, Reader, Writer,
 };
 use deku_symmetry::{Be, FromParts, Le, Lsb, MsbLe, Record, ToParts, read_record, write_record};
 use std::net::Ipv4Addr;
@@ -220,9 +217,6 @@ impl Record<()> for Pair {
     ghost writes = { λ c v b s r u m. m };
 }
 
-impl DekuContainerRead for Pair {}
-
-impl DekuContainerWrite for Pair {}
 
 /// A host.
 #[derive(Debug, Clone, Copy, PartialEq, Eq)]
@@ -310,9 +304,6 @@ impl Record<()> for Host {
     ghost writes = { λ c v b s r u m. m };
 }
 
-impl DekuContainerRead for Host {}
-
-impl DekuContainerWrite for Host {}
 ";
 
 #[test]

@@ -10,9 +10,7 @@ ghost use Rattle.deku_pieces.specs.declared.either.Either.TheVariants as either;
 ghost use Rattle.deku_kinds_tests.specs.declared.between.Body.TheVariants as body_kinds;
 
 use deku::device::{Sink, Source};
-use deku::prelude::{
-    DekuContainerRead, DekuContainerWrite, DekuError, DekuReader, DekuWriter, Reader, Writer,
-};
+use deku::prelude::{DekuError, DekuReader, DekuWriter, Reader, Writer};
 use deku_symmetry::{
     Be, ChosenBy, ChosenByRef, CountOf, CountOfLaw, CountedBy, CountedByRef, Either, FromParts,
     IdOf, IdOfLaw, Kind, Record, ToParts, read_record,
@@ -236,7 +234,3 @@ impl Record<()> for Between {
 
     ghost writes = { λ c v b s r u m. m };
 }
-
-impl DekuContainerRead for Between {}
-
-impl DekuContainerWrite for Between {}

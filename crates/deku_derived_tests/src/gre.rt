@@ -8,9 +8,7 @@ ghost use Rattle.deku.specs.Shapes.{Shows};
 ghost use Rattle.deku_symmetry.specs.Fields.{be, msb};
 
 use deku::device::{Sink, Source};
-use deku::prelude::{
-    DekuContainerRead, DekuContainerWrite, DekuError, DekuReader, DekuWriter, Reader, Writer,
-};
+use deku::prelude::{DekuError, DekuReader, DekuWriter, Reader, Writer};
 use deku_symmetry::{
     Be, Condition, ConditionLaw, Constant, ConstantLaw, FromParts, Magic, Msb, Optional,
     OptionalRef, Record, read_record,
@@ -278,7 +276,3 @@ impl Record<()> for Gre {
 
     ghost writes = { λ c v b s r u m. m };
 }
-
-impl DekuContainerRead for Gre {}
-
-impl DekuContainerWrite for Gre {}

@@ -10,9 +10,7 @@ ghost use Rattle.deku_pieces.specs.declared.either.Either.TheVariants as either;
 ghost use Rattle.deku_derived_tests.specs.declared.padded.EndianOfId.TheVariants as endian_of_id_kinds;
 
 use deku::device::{Sink, Source};
-use deku::prelude::{
-    DekuContainerRead, DekuContainerWrite, DekuError, DekuReader, DekuWriter, Reader, Writer,
-};
+use deku::prelude::{DekuError, DekuReader, DekuWriter, Reader, Writer};
 use deku_symmetry::{
     Be, Constant, ConstantLaw, Either, Enum, FromParts, Kind, Le, Magic, Msb, MsbEnum, MsbLe,
     Record, ToParts, read_record, write_record,
@@ -137,10 +135,6 @@ impl Record<()> for Padded {
     ghost writes = { λ c v b s r u m. m };
 }
 
-impl DekuContainerRead for Padded {}
-
-impl DekuContainerWrite for Padded {}
-
 /// Ids of one endian, and fields of another.
 #[derive(Debug, Clone, Copy, PartialEq, Eq)]
 pub enum EndianOfId {
@@ -223,7 +217,3 @@ impl Record<()> for EndianOfId {
 
     ghost writes = { λ c v b s r u m. m };
 }
-
-impl DekuContainerRead for EndianOfId {}
-
-impl DekuContainerWrite for EndianOfId {}

@@ -10,9 +10,7 @@ ghost use Rattle.deku_pieces.specs.declared.either.Either.TheVariants as either;
 ghost use Rattle.deku_derived_tests.specs.declared.shape.Shape.TheVariants as shape_kinds;
 
 use deku::device::{Sink, Source};
-use deku::prelude::{
-    DekuContainerRead, DekuContainerWrite, DekuError, DekuReader, DekuWriter, Reader, Writer,
-};
+use deku::prelude::{DekuError, DekuReader, DekuWriter, Reader, Writer};
 use deku_symmetry::{
     Be, Either, Enum, FromParts, InRange, Kind, Msb, MsbEnum, Otherwise, Record, ToParts,
     read_record, write_record,
@@ -146,7 +144,3 @@ impl Record<()> for Shape {
 
     ghost writes = { λ c v b s r u m. m };
 }
-
-impl DekuContainerRead for Shape {}
-
-impl DekuContainerWrite for Shape {}

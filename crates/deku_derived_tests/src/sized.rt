@@ -8,9 +8,7 @@ ghost use Rattle.deku.specs.Shapes.{Shows};
 ghost use Rattle.deku_symmetry.specs.Fields.{be};
 
 use deku::device::{Sink, Source};
-use deku::prelude::{
-    DekuContainerRead, DekuContainerWrite, DekuError, DekuReader, DekuWriter, Reader, Writer,
-};
+use deku::prelude::{DekuError, DekuReader, DekuWriter, Reader, Writer};
 use deku_symmetry::{
     Be, FilledBy, FromParts, Last, LastLaw, Msb, Prefixed, PrefixedRef, Record, RecordLast, Rest,
     SizeOf, SizeOfLaw, SizedBy, ToParts, Until, UntilRef, read_record, write_record,
@@ -81,10 +79,6 @@ impl Record<()> for Alone {
     ghost writes = { λ c v b s r u m. m };
 }
 
-impl DekuContainerRead for Alone {}
-
-impl DekuContainerWrite for Alone {}
-
 /// Two bytes.
 #[derive(Debug, Clone, Copy, PartialEq, Eq)]
 pub struct Two {
@@ -149,10 +143,6 @@ impl Record<()> for Two {
 
     ghost writes = { λ c v b s r u m. m };
 }
-
-impl DekuContainerRead for Two {}
-
-impl DekuContainerWrite for Two {}
 
 /// Items of as many bytes as a field says.
 #[derive(Debug, PartialEq, Eq, Drop)]
@@ -240,10 +230,6 @@ impl Record<()> for Sizing {
     ghost writes = { λ c v b s r u m. m };
 }
 
-impl DekuContainerRead for Sizing {}
-
-impl DekuContainerWrite for Sizing {}
-
 /// Items up to the end.
 #[derive(Debug, PartialEq, Eq, Drop)]
 pub struct ToEnd {
@@ -302,10 +288,6 @@ impl RecordLast for ToEnd {
 
     ghost writes = { λ v b s r u m. m };
 }
-
-impl DekuContainerRead for ToEnd {}
-
-impl DekuContainerWrite for ToEnd {}
 
 /// A text of C between two numbers.
 #[derive(Debug, PartialEq, Eq, Drop)]
@@ -392,7 +374,3 @@ impl Record<()> for Text {
 
     ghost writes = { λ c v b s r u m. m };
 }
-
-impl DekuContainerRead for Text {}
-
-impl DekuContainerWrite for Text {}

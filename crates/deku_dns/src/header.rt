@@ -20,9 +20,7 @@ ghost use Rattle.deku.specs.Shapes.{Shows};
 ghost use Rattle.deku_symmetry.specs.Fields.{be, msb};
 
 use deku::device::{Sink, Source};
-use deku::prelude::{
-    DekuContainerRead, DekuContainerWrite, DekuError, DekuReader, DekuWriter, Reader, Writer,
-};
+use deku::prelude::{DekuError, DekuReader, DekuWriter, Reader, Writer};
 use deku_symmetry::{Be, FromParts, Msb, Record, ToParts, read_record, write_record};
 
 /// The header of a message.
@@ -213,7 +211,3 @@ impl Record<()> for Header {
 
     ghost writes = { λ c v b s r u m. m };
 }
-
-impl DekuContainerRead for Header {}
-
-impl DekuContainerWrite for Header {}

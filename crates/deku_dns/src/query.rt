@@ -9,9 +9,7 @@ ghost use Rattle.deku.specs.Shapes.{Shows};
 use crate::header::Header;
 use crate::question::Question;
 use deku::device::{Sink, Source};
-use deku::prelude::{
-    DekuContainerRead, DekuContainerWrite, DekuError, DekuReader, DekuWriter, Reader, Writer,
-};
+use deku::prelude::{DekuError, DekuReader, DekuWriter, Reader, Writer};
 use deku_symmetry::{FromParts, Record, read_record};
 
 /// A header, and a question after it.
@@ -75,7 +73,3 @@ impl Record<()> for Query {
 
     ghost writes = { λ c v b s r u m. m };
 }
-
-impl DekuContainerRead for Query {}
-
-impl DekuContainerWrite for Query {}

@@ -37,9 +37,7 @@ use crate::fields::Fields;
 use crate::segment::Segment;
 use deku::ctx::{Endian, Limit};
 use deku::device::{Sink, Source};
-use deku::prelude::{
-    DekuContainerRead, DekuContainerWrite, DekuError, DekuReader, DekuWriter, Reader, Writer,
-};
+use deku::prelude::{DekuError, DekuReader, DekuWriter, Reader, Writer};
 use deku_symmetry::{
     Be, Constant, ConstantLaw, Either, Enum, FromParts, Kind, Le, Magic, Msb, MsbEnum, Record,
     ToParts, read_record, write_record,
@@ -234,7 +232,3 @@ impl DekuWriter<()> for Elf {
         write_record(self, writer, ())
     }
 }
-
-impl DekuContainerRead for Elf {}
-
-impl DekuContainerWrite for Elf {}

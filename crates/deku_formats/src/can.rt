@@ -18,9 +18,7 @@ ghost use Rattle.deku.specs.Shapes.{Shows};
 ghost use Rattle.deku_symmetry.specs.Fields.{lsb, lsb_be};
 
 use deku::device::{Sink, Source};
-use deku::prelude::{
-    DekuContainerRead, DekuContainerWrite, DekuError, DekuReader, DekuWriter, Reader, Writer,
-};
+use deku::prelude::{DekuError, DekuReader, DekuWriter, Reader, Writer};
 use deku_symmetry::{FromParts, Lsb, LsbBe, Record, ToParts, read_record, write_record};
 
 /// The signals.
@@ -133,7 +131,3 @@ impl Record<()> for Chassis {
 
     ghost writes = { λ c v b s r u m. m };
 }
-
-impl DekuContainerRead for Chassis {}
-
-impl DekuContainerWrite for Chassis {}

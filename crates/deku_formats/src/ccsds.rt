@@ -21,9 +21,7 @@ pub mod header;
 pub mod sample;
 
 use deku::device::{Sink, Source};
-use deku::prelude::{
-    DekuContainerRead, DekuContainerWrite, DekuError, DekuReader, DekuWriter, Reader, Writer,
-};
+use deku::prelude::{DekuError, DekuReader, DekuWriter, Reader, Writer};
 use deku_symmetry::{Counted, FromParts, Record, read_record, write_counted};
 use header::Header;
 use sample::Sample;
@@ -87,7 +85,3 @@ impl DekuWriter<()> for Telemetry {
         write_counted(&self.header, &self.samples, writer)
     }
 }
-
-impl DekuContainerRead for Telemetry {}
-
-impl DekuContainerWrite for Telemetry {}

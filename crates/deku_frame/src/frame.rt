@@ -17,10 +17,7 @@ ghost use Rattle.deku_frame.specs.FrameLaws.{frame_symmetric};
 use deku::ctx::Endian::Big;
 use deku::ctx::{BitSize, Limit};
 use deku::device::{Sink, Source};
-use deku::prelude::{
-    DekuContainerRead, DekuContainerWrite, DekuEnumExt, DekuError, DekuReader, DekuUpdate,
-    DekuWriter, Reader, Writer,
-};
+use deku::prelude::{DekuEnumExt, DekuError, DekuReader, DekuUpdate, DekuWriter, Reader, Writer};
 use deku_symmetry::{Part, Symmetric};
 
 pub mod laws;
@@ -248,10 +245,6 @@ fn in_step(frame: &Frame) -> bool
         _ => true,
     }
 }
-
-impl DekuContainerRead for Frame {}
-
-impl DekuContainerWrite for Frame {}
 
 /// The pieces of the id, the version and the fields. A frame has none if its length is not that of
 /// the payload.

@@ -26,9 +26,7 @@ ghost use Rattle.deku.specs.Shapes.{Shows};
 ghost use Rattle.deku_symmetry.specs.Fields.{be, msb};
 
 use deku::device::{Sink, Source};
-use deku::prelude::{
-    DekuContainerRead, DekuContainerWrite, DekuError, DekuReader, DekuWriter, Reader, Writer,
-};
+use deku::prelude::{DekuError, DekuReader, DekuWriter, Reader, Writer};
 use deku_symmetry::{
     Be, CountOf, CountOfLaw, CountedBy, CountedByRef, FromParts, Msb, Record, ToParts, read_record,
     write_record,
@@ -236,10 +234,6 @@ impl Record<()> for Header {
     ghost writes = { λ c v b s r u m. m };
 }
 
-impl DekuContainerRead for Header {}
-
-impl DekuContainerWrite for Header {}
-
 /// One text of the data of kind 16.
 #[derive(Debug, PartialEq, Eq, Drop)]
 pub struct Text {
@@ -327,7 +321,3 @@ impl Record<()> for Text {
 
     ghost writes = { λ c v b s r u m. m };
 }
-
-impl DekuContainerRead for Text {}
-
-impl DekuContainerWrite for Text {}

@@ -14,9 +14,7 @@ ghost use Rattle.deku.specs.Composing.{Then};
 ghost use Rattle.deku.specs.Shapes.{Shows};
 
 use deku::device::{Sink, Source};
-use deku::prelude::{
-    DekuContainerRead, DekuContainerWrite, DekuError, DekuReader, DekuWriter, Reader, Writer,
-};
+use deku::prelude::{DekuError, DekuReader, DekuWriter, Reader, Writer};
 use deku_symmetry::{
     Counted, FromParts, ItemCount, ItemCountLaw, Last, LastLaw, Record, ToParts, Until,
     read_record, write_counted, write_record,
@@ -171,7 +169,3 @@ impl Last<Label> for NameLast {
 impl LastLaw<Label> for NameLast {
     ghost alike = { λ v w e. rw e.0 refl };
 }
-
-impl DekuContainerRead for Label {}
-
-impl DekuContainerWrite for Label {}

@@ -15,9 +15,7 @@ ghost use Rattle.deku_symmetry.specs.Fields.{be};
 
 use crate::name::Name;
 use deku::device::{Sink, Source};
-use deku::prelude::{
-    DekuContainerRead, DekuContainerWrite, DekuError, DekuReader, DekuWriter, Reader, Writer,
-};
+use deku::prelude::{DekuError, DekuReader, DekuWriter, Reader, Writer};
 use deku_symmetry::{Be, FromParts, Record, read_record};
 
 /// A question.
@@ -83,7 +81,3 @@ impl Record<()> for Question {
 
     ghost writes = { λ c v b s r u m. m };
 }
-
-impl DekuContainerRead for Question {}
-
-impl DekuContainerWrite for Question {}

@@ -19,9 +19,7 @@ ghost use Rattle.deku_symmetry.specs.Fields.{be};
 
 use crate::name::Name;
 use deku::device::{Sink, Source};
-use deku::prelude::{
-    DekuContainerRead, DekuContainerWrite, DekuError, DekuReader, DekuWriter, Reader, Writer,
-};
+use deku::prelude::{DekuError, DekuReader, DekuWriter, Reader, Writer};
 use deku_symmetry::{
     Be, CountOf, CountOfLaw, CountedBy, CountedByRef, FromParts, Record, read_record,
 };
@@ -153,10 +151,6 @@ impl Record<()> for Resource {
     ghost writes = { λ c v b s r u m. m };
 }
 
-impl DekuContainerRead for Resource {}
-
-impl DekuContainerWrite for Resource {}
-
 /// The data of kind 15: a server that takes mail.
 #[derive(Debug, PartialEq, Eq, Drop)]
 pub struct MailServer {
@@ -218,10 +212,6 @@ impl Record<()> for MailServer {
 
     ghost writes = { λ c v b s r u m. m };
 }
-
-impl DekuContainerRead for MailServer {}
-
-impl DekuContainerWrite for MailServer {}
 
 /// The data of kind 6: who is in charge of a part of the names.
 #[derive(Debug, PartialEq, Eq, Drop)]
@@ -327,10 +317,6 @@ impl Record<()> for Authority {
     ghost writes = { λ c v b s r u m. m };
 }
 
-impl DekuContainerRead for Authority {}
-
-impl DekuContainerWrite for Authority {}
-
 /// The data of the kinds 2 (NS), 5 (CNAME) and 12 (PTR): one name.
 #[derive(Debug, PartialEq, Eq, Drop)]
 pub struct Target {
@@ -390,7 +376,3 @@ impl Record<()> for Target {
 
     ghost writes = { λ c v b s r u m. m };
 }
-
-impl DekuContainerRead for Target {}
-
-impl DekuContainerWrite for Target {}

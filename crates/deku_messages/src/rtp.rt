@@ -21,9 +21,7 @@ ghost use Rattle.deku.specs.Shapes.{Shows};
 ghost use Rattle.deku_symmetry.specs.Fields.{be, msb};
 
 use deku::device::{Sink, Source};
-use deku::prelude::{
-    DekuContainerRead, DekuContainerWrite, DekuError, DekuReader, DekuWriter, Reader, Writer,
-};
+use deku::prelude::{DekuError, DekuReader, DekuWriter, Reader, Writer};
 use deku_symmetry::{
     Assert, Be, Check, CheckLaw, CountOf, CountOfLaw, CountedBy, CountedByRef, FromParts, Msb,
     Record, read_record,
@@ -241,7 +239,3 @@ impl Record<()> for Rtp {
 
     ghost writes = { λ c v b s r u m. m };
 }
-
-impl DekuContainerRead for Rtp {}
-
-impl DekuContainerWrite for Rtp {}

@@ -14,9 +14,7 @@ ghost use Rattle.deku.specs.Shapes.{Shows};
 ghost use Rattle.deku_symmetry.specs.Fields.{be};
 
 use deku::device::{Sink, Source};
-use deku::prelude::{
-    DekuContainerRead, DekuContainerWrite, DekuError, DekuReader, DekuWriter, Reader, Writer,
-};
+use deku::prelude::{DekuError, DekuReader, DekuWriter, Reader, Writer};
 use deku_symmetry::{Be, FromParts, Record, ToParts, read_record, write_record};
 
 /// The header of a record.
@@ -91,7 +89,3 @@ impl Record<()> for Tls {
 
     ghost writes = { λ c v b s r u m. m };
 }
-
-impl DekuContainerRead for Tls {}
-
-impl DekuContainerWrite for Tls {}

@@ -20,9 +20,7 @@ ghost use Rattle.deku.specs.Shapes.{Shows};
 ghost use Rattle.deku_symmetry.specs.Fields.{be};
 
 use deku::device::{Sink, Source};
-use deku::prelude::{
-    DekuContainerRead, DekuContainerWrite, DekuError, DekuReader, DekuWriter, Reader, Writer,
-};
+use deku::prelude::{DekuError, DekuReader, DekuWriter, Reader, Writer};
 use deku_symmetry::{
     Assert, Be, Check, CheckLaw, FromParts, Record, ToParts, read_record, write_record,
 };
@@ -291,7 +289,3 @@ impl Record<()> for Arp {
 
     ghost writes = { λ c v b s r u m. m };
 }
-
-impl DekuContainerRead for Arp {}
-
-impl DekuContainerWrite for Arp {}

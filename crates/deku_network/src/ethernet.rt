@@ -20,9 +20,7 @@ ghost use Rattle.deku.specs.Shapes.{Shows};
 ghost use Rattle.deku_symmetry.specs.Fields.{be, msb};
 
 use deku::device::{Sink, Source};
-use deku::prelude::{
-    DekuContainerRead, DekuContainerWrite, DekuError, DekuReader, DekuWriter, Reader, Writer,
-};
+use deku::prelude::{DekuError, DekuReader, DekuWriter, Reader, Writer};
 use deku_symmetry::{Be, FromParts, Msb, Record, ToParts, read_record, write_record};
 
 /// The header of a frame.
@@ -97,10 +95,6 @@ impl Record<()> for Ethernet {
 
     ghost writes = { λ c v b s r u m. m };
 }
-
-impl DekuContainerRead for Ethernet {}
-
-impl DekuContainerWrite for Ethernet {}
 
 /// The tag of a virtual network.
 #[derive(Debug, Clone, Copy, PartialEq, Eq)]
@@ -187,7 +181,3 @@ impl Record<()> for Tag {
 
     ghost writes = { λ c v b s r u m. m };
 }
-
-impl DekuContainerRead for Tag {}
-
-impl DekuContainerWrite for Tag {}

@@ -21,9 +21,7 @@ ghost use Rattle.deku_pieces.specs.declared.either.Either.TheVariants as either;
 ghost use Rattle.deku_network.specs.declared.icmp.Icmp.TheVariants as icmp_kinds;
 
 use deku::device::{Sink, Source};
-use deku::prelude::{
-    DekuContainerRead, DekuContainerWrite, DekuError, DekuReader, DekuWriter, Reader, Writer,
-};
+use deku::prelude::{DekuError, DekuReader, DekuWriter, Reader, Writer};
 use deku_symmetry::{
     Be, Either, Enum, FromParts, InRange, Kind, MsbEnum, Otherwise, Record, ToParts, read_record,
     write_record,
@@ -267,7 +265,3 @@ impl Record<()> for Icmp {
 
     ghost writes = { λ c v b s r u m. m };
 }
-
-impl DekuContainerRead for Icmp {}
-
-impl DekuContainerWrite for Icmp {}

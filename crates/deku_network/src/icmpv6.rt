@@ -19,9 +19,7 @@ ghost use Rattle.deku_pieces.specs.declared.either.Either.TheVariants as either;
 ghost use Rattle.deku_network.specs.declared.icmpv6.Icmpv6.TheVariants as icmpv6_kinds;
 
 use deku::device::{Sink, Source};
-use deku::prelude::{
-    DekuContainerRead, DekuContainerWrite, DekuError, DekuReader, DekuWriter, Reader, Writer,
-};
+use deku::prelude::{DekuError, DekuReader, DekuWriter, Reader, Writer};
 use deku_symmetry::{
     Be, Either, Enum, FromParts, InRange, Kind, MsbEnum, Otherwise, Record, ToParts, read_record,
     write_record,
@@ -260,7 +258,3 @@ impl Record<()> for Icmpv6 {
 
     ghost writes = { λ c v b s r u m. m };
 }
-
-impl DekuContainerRead for Icmpv6 {}
-
-impl DekuContainerWrite for Icmpv6 {}

@@ -24,9 +24,7 @@ ghost use Rattle.deku.specs.Shapes.{Shows};
 ghost use Rattle.deku_symmetry.specs.Fields.{be, msb};
 
 use deku::device::{Sink, Source};
-use deku::prelude::{
-    DekuContainerRead, DekuContainerWrite, DekuError, DekuReader, DekuWriter, Reader, Writer,
-};
+use deku::prelude::{DekuError, DekuReader, DekuWriter, Reader, Writer};
 use deku_symmetry::{
     Assert, Be, Check, CheckLaw, CountOf, CountOfLaw, CountedBy, CountedByRef, FromParts, Msb,
     Record, read_record,
@@ -307,7 +305,3 @@ impl Record<()> for Ipv4 {
 
     ghost writes = { λ c v b s r u m. m };
 }
-
-impl DekuContainerRead for Ipv4 {}
-
-impl DekuContainerWrite for Ipv4 {}

@@ -20,9 +20,7 @@ ghost use Rattle.deku.specs.Shapes.{Shows};
 ghost use Rattle.deku_symmetry.specs.Fields.{be, msb};
 
 use deku::device::{Sink, Source};
-use deku::prelude::{
-    DekuContainerRead, DekuContainerWrite, DekuError, DekuReader, DekuWriter, Reader, Writer,
-};
+use deku::prelude::{DekuError, DekuReader, DekuWriter, Reader, Writer};
 use deku_symmetry::{
     Assert, Be, Check, CheckLaw, CountOf, CountOfLaw, CountedBy, CountedByRef, FromParts, Msb,
     Record, ToParts, read_record, write_record,
@@ -189,10 +187,6 @@ impl Record<()> for Ipv6 {
     ghost writes = { λ c v b s r u m. m };
 }
 
-impl DekuContainerRead for Ipv6 {}
-
-impl DekuContainerWrite for Ipv6 {}
-
 /// The extension headers hop-by-hop (0) and destination (60): options for the routers on the way,
 /// and for the receiver.
 #[derive(Debug, PartialEq, Eq, Drop)]
@@ -296,10 +290,6 @@ impl Record<()> for Options {
 
     ghost writes = { λ c v b s r u m. m };
 }
-
-impl DekuContainerRead for Options {}
-
-impl DekuContainerWrite for Options {}
 
 /// The extension header that lists routers to pass (43).
 #[derive(Debug, PartialEq, Eq, Drop)]
@@ -418,10 +408,6 @@ impl Record<()> for Routing {
     ghost writes = { λ c v b s r u m. m };
 }
 
-impl DekuContainerRead for Routing {}
-
-impl DekuContainerWrite for Routing {}
-
 /// The extension header of a packet that was cut (44).
 #[derive(Debug, Clone, Copy, PartialEq, Eq)]
 pub struct Fragment {
@@ -532,7 +518,3 @@ impl Record<()> for Fragment {
 
     ghost writes = { λ c v b s r u m. m };
 }
-
-impl DekuContainerRead for Fragment {}
-
-impl DekuContainerWrite for Fragment {}

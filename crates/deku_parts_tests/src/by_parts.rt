@@ -6,10 +6,7 @@ ghost use Rattle.deku.specs.Shapes.{Shows};
 ghost use Rattle.deku_symmetry.specs.Fields.{be};
 
 use deku::device::{Sink, Source};
-use deku::prelude::{
-    DekuContainerRead, DekuContainerWrite, DekuError, DekuReader, DekuWriter, NeedSize, Reader,
-    Writer,
-};
+use deku::prelude::{DekuError, DekuReader, DekuWriter, NeedSize, Reader, Writer};
 use deku_coded::Coded;
 use deku_symmetry::{Be, FromParts, Msb, Record, Symmetric, ToParts, read_record};
 use deku_testing_values::expecting::{MISFIT, expect_bytes, expect_written, same, writer_in};
@@ -112,10 +109,6 @@ impl Record<()> for Year {
 
     ghost writes = { λ c v b s r u m. m };
 }
-
-impl DekuContainerRead for Year {}
-
-impl DekuContainerWrite for Year {}
 
 const QUESTION: Datagram = Datagram {
     source: 1024,

@@ -13,7 +13,7 @@ ghost use Rattle.deku_pieces.specs.Sizes.{WritesSizes};
 use deku::device::{Sink, Source};
 use deku::reader::Reader;
 use deku::writer::Writer;
-use deku::{DekuContainerRead, DekuContainerWrite, DekuError, DekuReader, DekuWriter};
+use deku::{DekuError, DekuReader, DekuWriter};
 use std::marker::PhantomData;
 
 /// How many bits the content has that is after some parts.
@@ -190,7 +190,3 @@ pub(crate) fn write_sized<P: DekuWriter<()>, C: SizeOf<P>, T: DekuWriter<()>, W:
         None => Err(DekuError::Assertion("head without a size")),
     }
 }
-
-impl<P: DekuReader<()>, C: SizeOf<P>, T: DekuReader<()>> DekuContainerRead for SizedBy<P, C, T> {}
-
-impl<P: DekuWriter<()>, C: SizeOf<P>, T: DekuWriter<()>> DekuContainerWrite for SizedBy<P, C, T> {}

@@ -7,7 +7,7 @@ ghost use Rattle.deku_pieces.specs.Following.{ReadsUnderHead};
 use deku::device::{Sink, Source};
 use deku::reader::Reader;
 use deku::writer::Writer;
-use deku::{DekuContainerRead, DekuContainerWrite, DekuError, DekuReader, DekuWriter};
+use deku::{DekuError, DekuReader, DekuWriter};
 use std::marker::PhantomData;
 
 /// The context of the value that is after some parts: the number of its bits, its endian, or a
@@ -98,9 +98,3 @@ impl<P: DekuWriter<()>, C: ContextOf<P, I>, T: DekuWriter<I>, I: Drop> DekuWrite
         self.value.to_writer(writer, C::context(&self.head))
     }
 }
-
-impl<P: DekuReader<()>, C: ContextOf<P, I>, T: DekuReader<I>, I: Drop> DekuContainerRead
-    for UnderHead<P, C, T, I> {}
-
-impl<P: DekuWriter<()>, C: ContextOf<P, I>, T: DekuWriter<I>, I: Drop> DekuContainerWrite
-    for UnderHead<P, C, T, I> {}

@@ -11,7 +11,7 @@ use crate::traits::{Part, Symmetric};
 use deku::device::{Sink, Source};
 use deku::reader::Reader;
 use deku::writer::Writer;
-use deku::{DekuContainerRead, DekuContainerWrite, DekuError, DekuReader, DekuWriter};
+use deku::{DekuError, DekuReader, DekuWriter};
 use std::marker::PhantomData;
 
 /// The id that some parts say.
@@ -140,10 +140,6 @@ fn write_chosen<P: DekuWriter<()>, C: IdOf<P>, K: Kinds, W: Sink>(
     head.to_writer(writer, ())?;
     kind.write_kind(writer)
 }
-
-impl<P: DekuReader<()>, C: IdOf<P>, K: Kinds> DekuContainerRead for ChosenBy<P, C, K> {}
-
-impl<P: DekuWriter<()>, C: IdOf<P>, K: Kinds> DekuContainerWrite for ChosenBy<P, C, K> {}
 
 /// The pieces of the head, and then those of the value. There are no pieces if the head chooses
 /// another kind.

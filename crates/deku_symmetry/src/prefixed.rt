@@ -13,7 +13,7 @@ use deku::ctx::Limit;
 use deku::device::{Sink, Source};
 use deku::reader::Reader;
 use deku::writer::Writer;
-use deku::{DekuContainerRead, DekuContainerWrite, DekuError, DekuReader, DekuWriter, read_item};
+use deku::{DekuError, DekuReader, DekuWriter, read_item};
 use std::marker::PhantomData;
 
 /// A count that is laid out as `I`, and after it as many items. The items are counted when they are
@@ -95,10 +95,6 @@ fn write_prefixed<I: Id + DekuWriter<()>, T: DekuWriter<()>, W: Sink>(
     count.to_writer(writer, ())?;
     items.to_writer(writer, ())
 }
-
-impl<I: Id + DekuReader<()>, T: DekuReader<()>> DekuContainerRead for Prefixed<I, T> {}
-
-impl<I: Id + DekuWriter<()>, T: DekuWriter<()>> DekuContainerWrite for Prefixed<I, T> {}
 
 /// The pieces of the count of the items, and then those of the items.
 impl<I: Id, T: Part<()>> Part<()> for Prefixed<I, T> {

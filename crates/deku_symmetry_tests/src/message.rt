@@ -8,9 +8,7 @@ ghost use Rattle.deku_pieces.specs.declared.either.Either.TheVariants as either;
 ghost use Rattle.deku_symmetry.specs.Fields.{be, msb};
 
 use deku::device::{Sink, Source};
-use deku::prelude::{
-    DekuContainerRead, DekuContainerWrite, DekuError, DekuReader, DekuWriter, Reader, Writer,
-};
+use deku::prelude::{DekuError, DekuReader, DekuWriter, Reader, Writer};
 use deku_symmetry::{
     Be, Either, Enum, FromParts, Kind, Msb, MsbEnum, Record, ToParts, read_record, write_record,
 };
@@ -106,7 +104,3 @@ impl Record<()> for Message {
 
     ghost writes = { λ c v b s r u m. m };
 }
-
-impl DekuContainerRead for Message {}
-
-impl DekuContainerWrite for Message {}

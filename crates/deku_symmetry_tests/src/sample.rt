@@ -5,9 +5,7 @@ ghost use Rattle.deku.specs.Composing.{Then};
 ghost use Rattle.deku.specs.Shapes.{Shows};
 
 use deku::device::{Sink, Source};
-use deku::prelude::{
-    DekuContainerRead, DekuContainerWrite, DekuError, DekuReader, DekuWriter, Reader, Writer,
-};
+use deku::prelude::{DekuError, DekuReader, DekuWriter, Reader, Writer};
 use deku_symmetry::{Be, FromParts, Msb, Record, ToParts, read_record, write_record};
 
 /// Four bits of a sensor's number, four of its state, and two bytes of a value, all with their high
@@ -81,10 +79,6 @@ impl DekuWriter<()> for Sample {
         write_record(self, writer, ())
     }
 }
-
-impl DekuContainerRead for Sample {}
-
-impl DekuContainerWrite for Sample {}
 
 #[cfg(test)]
 mod tests;

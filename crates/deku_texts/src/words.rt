@@ -4,11 +4,9 @@ use deku_tokens::arena::Arena;
 use std::alloc::AllocError;
 
 // The names that a module imports or that its bounds have.
-const IMPORTED: [&str; 75] = [
+const IMPORTED: [&str; 73] = [
     "Source",
     "Sink",
-    "DekuContainerRead",
-    "DekuContainerWrite",
     "DekuError",
     "DekuReader",
     "DekuUpdate",

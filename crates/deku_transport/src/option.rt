@@ -16,9 +16,7 @@ ghost use Rattle.deku.specs.Shapes.{Shows};
 ghost use Rattle.deku_symmetry.specs.Fields.{be};
 
 use deku::device::{Sink, Source};
-use deku::prelude::{
-    DekuContainerRead, DekuContainerWrite, DekuError, DekuReader, DekuWriter, Reader, Writer,
-};
+use deku::prelude::{DekuError, DekuReader, DekuWriter, Reader, Writer};
 use deku_symmetry::{
     Be, Condition, ConditionLaw, CountOf, CountOfLaw, CountedBy, CountedByRef, FromParts, Optional,
     OptionalRef, Record, ToParts, read_record, write_record,
@@ -113,10 +111,6 @@ impl Record<()> for TcpOption {
     ghost writes = { λ c v b s r u m. m };
 }
 
-impl DekuContainerRead for TcpOption {}
-
-impl DekuContainerWrite for TcpOption {}
-
 /// The length of an option, and its data.
 #[derive(Debug, PartialEq, Eq, Drop)]
 pub struct Tail {
@@ -208,10 +202,6 @@ impl Record<()> for Tail {
     ghost writes = { λ c v b s r u m. m };
 }
 
-impl DekuContainerRead for Tail {}
-
-impl DekuContainerWrite for Tail {}
-
 /// The data of kind 2.
 #[derive(Debug, Clone, Copy, PartialEq, Eq)]
 pub struct LargestSegment {
@@ -277,10 +267,6 @@ impl Record<()> for LargestSegment {
     ghost writes = { λ c v b s r u m. m };
 }
 
-impl DekuContainerRead for LargestSegment {}
-
-impl DekuContainerWrite for LargestSegment {}
-
 /// The data of kind 3.
 #[derive(Debug, Clone, Copy, PartialEq, Eq)]
 pub struct WindowScale {
@@ -345,10 +331,6 @@ impl Record<()> for WindowScale {
 
     ghost writes = { λ c v b s r u m. m };
 }
-
-impl DekuContainerRead for WindowScale {}
-
-impl DekuContainerWrite for WindowScale {}
 
 /// One block of kind 5: bytes that came out of order.
 #[derive(Debug, Clone, Copy, PartialEq, Eq)]
@@ -417,10 +399,6 @@ impl Record<()> for Block {
     ghost writes = { λ c v b s r u m. m };
 }
 
-impl DekuContainerRead for Block {}
-
-impl DekuContainerWrite for Block {}
-
 /// The data of kind 8.
 #[derive(Debug, Clone, Copy, PartialEq, Eq)]
 pub struct Times {
@@ -487,7 +465,3 @@ impl Record<()> for Times {
 
     ghost writes = { λ c v b s r u m. m };
 }
-
-impl DekuContainerRead for Times {}
-
-impl DekuContainerWrite for Times {}

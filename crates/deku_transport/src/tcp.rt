@@ -22,9 +22,7 @@ ghost use Rattle.deku.specs.Shapes.{Shows};
 ghost use Rattle.deku_symmetry.specs.Fields.{be, msb};
 
 use deku::device::{Sink, Source};
-use deku::prelude::{
-    DekuContainerRead, DekuContainerWrite, DekuError, DekuReader, DekuWriter, Reader, Writer,
-};
+use deku::prelude::{DekuError, DekuReader, DekuWriter, Reader, Writer};
 use deku_symmetry::{
     Be, CountOf, CountOfLaw, CountedBy, CountedByRef, FromParts, Msb, Record, read_record,
 };
@@ -285,7 +283,3 @@ impl Record<()> for Tcp {
 
     ghost writes = { λ c v b s r u m. m };
 }
-
-impl DekuContainerRead for Tcp {}
-
-impl DekuContainerWrite for Tcp {}

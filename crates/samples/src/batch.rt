@@ -10,10 +10,7 @@ ghost use Rattle.deku.specs.declared.error.DekuError.TheVariants.{Parse};
 ghost use Rattle.deku.specs.Faults.{Tells};
 
 use deku::device::{Sink, Source};
-use deku::prelude::{
-    DekuContainerRead, DekuContainerWrite, DekuError, DekuReader, DekuUpdate, DekuWriter, Reader,
-    Writer,
-};
+use deku::prelude::{DekuError, DekuReader, DekuUpdate, DekuWriter, Reader, Writer};
 use deku_symmetry::{
     Be, CountOf, CountOfLaw, CountedBy, CountedByRef, FromParts, Record, read_record,
 };
@@ -104,10 +101,6 @@ impl Record<()> for Batch {
 
     ghost writes = { λ c v b s r u m. m };
 }
-
-impl DekuContainerRead for Batch {}
-
-impl DekuContainerWrite for Batch {}
 
 /// Sets `count` to the length of `values`.
 /// It fails with `Parse("error parsing int")`, and nothing changes, if a length does not fit.

@@ -10,9 +10,7 @@ ghost use Rattle.deku_pieces.specs.declared.either.Either.TheVariants as either;
 ghost use Rattle.samples.specs.declared.event.Event.TheVariants as event_kinds;
 
 use deku::device::{Sink, Source};
-use deku::prelude::{
-    DekuContainerRead, DekuContainerWrite, DekuError, DekuReader, DekuWriter, Reader, Writer,
-};
+use deku::prelude::{DekuError, DekuReader, DekuWriter, Reader, Writer};
 use deku_symmetry::{
     Be, Either, Enum, FromParts, InRange, Kind, MsbEnum, Otherwise, Record, ToParts, read_record,
     write_record,
@@ -125,7 +123,3 @@ impl Record<()> for Event {
 
     ghost writes = { λ c v b s r u m. m };
 }
-
-impl DekuContainerRead for Event {}
-
-impl DekuContainerWrite for Event {}

@@ -8,9 +8,7 @@ ghost use Rattle.deku.specs.Shapes.{Shows};
 ghost use Rattle.deku_symmetry.specs.Fields.{be, msb};
 
 use deku::device::{Sink, Source};
-use deku::prelude::{
-    DekuContainerRead, DekuContainerWrite, DekuError, DekuReader, DekuWriter, Reader, Writer,
-};
+use deku::prelude::{DekuError, DekuReader, DekuWriter, Reader, Writer};
 use deku_symmetry::{Be, FromParts, Msb, Record, ToParts, read_record, write_record};
 
 /// The record `Sample`.
@@ -82,7 +80,3 @@ impl Record<()> for Sample {
 
     ghost writes = { λ c v b s r u m. m };
 }
-
-impl DekuContainerRead for Sample {}
-
-impl DekuContainerWrite for Sample {}

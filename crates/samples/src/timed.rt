@@ -8,9 +8,7 @@ ghost use Rattle.deku.specs.Shapes.{Shows};
 ghost use Rattle.deku_symmetry.specs.Fields.{be, msb};
 
 use deku::device::{Sink, Source};
-use deku::prelude::{
-    DekuContainerRead, DekuContainerWrite, DekuError, DekuReader, DekuWriter, Reader, Writer,
-};
+use deku::prelude::{DekuError, DekuReader, DekuWriter, Reader, Writer};
 use deku_symmetry::{
     Be, Condition, ConditionLaw, FromParts, Msb, Optional, OptionalRef, Record, read_record,
 };
@@ -126,7 +124,3 @@ impl Record<()> for Timed {
 
     ghost writes = { λ c v b s r u m. m };
 }
-
-impl DekuContainerRead for Timed {}
-
-impl DekuContainerWrite for Timed {}

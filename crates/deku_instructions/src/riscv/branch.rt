@@ -7,9 +7,7 @@ ghost use Rattle.deku.specs.Composing.{Then};
 ghost use Rattle.deku.specs.Shapes.{Shows};
 
 use deku::device::{Sink, Source};
-use deku::prelude::{
-    DekuContainerRead, DekuContainerWrite, DekuError, DekuReader, DekuWriter, Reader, Writer,
-};
+use deku::prelude::{DekuError, DekuReader, DekuWriter, Reader, Writer};
 use deku_symmetry::scattered::{high_bits, low_bits};
 use deku_symmetry::{FromParts, Lsb, Record, ToParts, read_record, write_record};
 
@@ -171,7 +169,3 @@ impl Record<()> for Branch {
 
     ghost writes = { λ c v b s r u m. m };
 }
-
-impl DekuContainerRead for Branch {}
-
-impl DekuContainerWrite for Branch {}

@@ -5,9 +5,7 @@ ghost use Rattle.deku.specs.Composing.{Then};
 ghost use Rattle.deku.specs.Shapes.{Shows};
 
 use deku::device::{Sink, Source};
-use deku::prelude::{
-    DekuContainerRead, DekuContainerWrite, DekuError, DekuReader, DekuWriter, Reader, Writer,
-};
+use deku::prelude::{DekuError, DekuReader, DekuWriter, Reader, Writer};
 use deku_symmetry::{FromParts, Lsb, Record, ToParts, read_record, write_record};
 
 /// The operands of an operation on a register and a number (I).
@@ -97,7 +95,3 @@ impl Record<()> for Immediate {
 
     ghost writes = { λ c v b s r u m. m };
 }
-
-impl DekuContainerRead for Immediate {}
-
-impl DekuContainerWrite for Immediate {}

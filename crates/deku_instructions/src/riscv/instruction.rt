@@ -24,9 +24,7 @@ use crate::riscv::register::Register;
 use crate::riscv::store::Store;
 use crate::riscv::upper::Upper;
 use deku::device::{Sink, Source};
-use deku::prelude::{
-    DekuContainerRead, DekuContainerWrite, DekuError, DekuReader, DekuWriter, Reader, Writer,
-};
+use deku::prelude::{DekuError, DekuReader, DekuWriter, Reader, Writer};
 use deku_symmetry::{
     Either, Enum, FromParts, Kind, LsbEnum, Record, ToParts, read_record, write_record,
 };
@@ -210,7 +208,3 @@ impl DekuWriter<()> for Instruction {
         write_record(self, writer, ())
     }
 }
-
-impl DekuContainerRead for Instruction {}
-
-impl DekuContainerWrite for Instruction {}

@@ -5,9 +5,7 @@ ghost use Rattle.deku.specs.Composing.{Then};
 ghost use Rattle.deku.specs.Shapes.{Shows};
 
 use deku::device::{Sink, Source};
-use deku::prelude::{
-    DekuContainerRead, DekuContainerWrite, DekuError, DekuReader, DekuWriter, Reader, Writer,
-};
+use deku::prelude::{DekuError, DekuReader, DekuWriter, Reader, Writer};
 use deku_symmetry::{FromParts, Lsb, Record, ToParts, read_record, write_record};
 
 /// The operands of an operation on two registers (R).
@@ -104,7 +102,3 @@ impl Record<()> for Register {
 
     ghost writes = { λ c v b s r u m. m };
 }
-
-impl DekuContainerRead for Register {}
-
-impl DekuContainerWrite for Register {}

@@ -5,9 +5,7 @@ ghost use Rattle.deku.specs.Composing.{Then};
 ghost use Rattle.deku.specs.Shapes.{Shows};
 
 use deku::device::{Sink, Source};
-use deku::prelude::{
-    DekuContainerRead, DekuContainerWrite, DekuError, DekuReader, DekuWriter, Reader, Writer,
-};
+use deku::prelude::{DekuError, DekuReader, DekuWriter, Reader, Writer};
 use deku_symmetry::{FromParts, Lsb, Record, ToParts, read_record, write_record};
 
 /// The operands of a load of the high bits of a register (U).
@@ -73,7 +71,3 @@ impl Record<()> for Upper {
 
     ghost writes = { λ c v b s r u m. m };
 }
-
-impl DekuContainerRead for Upper {}
-
-impl DekuContainerWrite for Upper {}
