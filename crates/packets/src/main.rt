@@ -1,10 +1,10 @@
 //! Shows what is in each packet of a capture.
 #![tactic(auto)]
 
-use clap::{Arg, ArgAction, ArgMatches, Command, Error};
+use clap::{Arg, ArgAction, ArgMatches, Command};
 use deku_packets_program::{Wanted, run};
 use deku_progress::Progress;
-use std::alloc::Global;
+use std::alloc::{AllocError, Global};
 use std::fs::File;
 use std::io::{BufReader, BufWriter, IsTerminal, Read};
 use std::process::ExitCode;
@@ -29,20 +29,22 @@ fn main(rt: HostRuntime) -> io::Result<ExitCode> {
     }
 }
 
-fn command<'a>(alloc: Global) -> Result<Command<'a>, Error> {
+fn command<'a>(alloc: Global) -> Result<Command<'a>, AllocError> {
     let file = Arg::new(alloc, "FILE")
         .required(true)
         .help("The capture; - is standard input");
-    let json = Arg::new(alloc, "json")
-        .long("json")
-        .action(ArgAction::SetTrue)
-        .help("Prints each packet as a JSON object with all fields");
-    let check = Arg::new(alloc, "check")
-        .long("check")
-        .action(ArgAction::SetTrue)
-        .help("Writes each packet back, and says whether that gives the same bytes");
-    let command = Command::new(alloc, "packets").about(ABOUT);
-    Ok(command.arg(file)?.arg(json)?.arg(check)?)
+    let command = Command::new(alloc, "packets").about(ABOUT).arg(file)?;
+    let json = flag(alloc, "json").help("Prints each packet as a JSON object with all fields");
+    let command = command.arg(json)?;
+    let check = flag(alloc, "check").help(
+        "Writes each packet back, and says whether that gives the same bytes",
+    );
+    command.arg(check)
+}
+
+// An option without a value.
+fn flag<'a>(alloc: Global, name: &'a str) -> Arg<'a> {
+    Arg::new(alloc, name).long(name).action(ArgAction::SetTrue)
 }
 
 // Shows the capture that the words name. Returns the status.
