@@ -26,9 +26,7 @@ ghost use Rattle.deku.specs.Shapes.{Shows};
 ghost use Rattle.deku_symmetry.specs.Fields.{be, msb};
 
 use deku::device::{Sink, Source};
-use deku::prelude::{
-    DekuError, DekuReader, DekuWriter, Reader, Writer,
-};
+use deku::prelude::{DekuError, DekuReader, DekuWriter, Reader, Writer};
 use deku_symmetry::{Be, FromParts, Msb, Record, ToParts, read_record, write_record};
 
 /// The record `Udp`.
@@ -119,7 +117,6 @@ impl Record<()> for Udp {
 
     ghost writes = { λ c v b s r u m. m };
 }
-
 ";
 
 const HOST: &str = "#[deku(bit_order = \"lsb\")]
@@ -146,9 +143,7 @@ ghost use Rattle.deku.specs.Shapes.{Shows};
 ghost use Rattle.deku_symmetry.specs.Fields.{be, le, lsb, msb_le};
 
 use deku::device::{Sink, Source};
-use deku::prelude::{
-    DekuError, DekuReader, DekuWriter, Reader, Writer,
-};
+use deku::prelude::{DekuError, DekuReader, DekuWriter, Reader, Writer};
 use deku_symmetry::{Be, FromParts, Le, Lsb, MsbLe, Record, ToParts, read_record, write_record};
 use std::net::Ipv4Addr;
 
@@ -216,7 +211,6 @@ impl Record<()> for Pair {
 
     ghost writes = { λ c v b s r u m. m };
 }
-
 
 /// A host.
 #[derive(Debug, Clone, Copy, PartialEq, Eq)]
@@ -303,7 +297,6 @@ impl Record<()> for Host {
 
     ghost writes = { λ c v b s r u m. m };
 }
-
 ";
 
 #[test]

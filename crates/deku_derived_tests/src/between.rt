@@ -7,7 +7,7 @@ ghost use Rattle.deku.specs.Composing.{Then};
 ghost use Rattle.deku.specs.Shapes.{Shows};
 ghost use Rattle.deku_symmetry.specs.Fields.{be};
 ghost use Rattle.deku_pieces.specs.declared.either.Either.TheVariants as either;
-ghost use Rattle.deku_kinds_tests.specs.declared.between.Body.TheVariants as body_kinds;
+ghost use Rattle.deku_derived_tests.specs.declared.between.Body.TheVariants as body_kinds;
 
 use deku::device::{Sink, Source};
 use deku::prelude::{DekuError, DekuReader, DekuWriter, Reader, Writer};
@@ -183,7 +183,7 @@ impl FromParts for Between {
         }
     }
 
-    ghost use Rattle.deku_kinds_tests.specs.contracts.between.BodyFromParts.TheImpl.Laws.{there-law as body_there};
+    ghost use Rattle.deku_derived_tests.specs.contracts.between.BodyFromParts.TheImpl.Laws.{there-law as body_there};
 
     ghost there = { λ r. rw (body_there r.body) refl };
 }

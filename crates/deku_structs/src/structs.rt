@@ -226,7 +226,6 @@ impl $record$ for $name$ {
 
     ghost writes = { λ $under$v b s r u m. m };
 }
-
 ";
 
 /// Appends the traits of deku for a record that is written by this body. It may take the rest of
