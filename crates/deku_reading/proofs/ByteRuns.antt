@@ -1,26 +1,19 @@
 -- Whole bytes that are read as one number, the first of them the highest.
-use Rattle.std.proofs.Common.{◌≡◌, ℕ, ◌+◌, ◌*◌, ◌-◌, ◌/◌, ◌^◌, ◌<◌, ◌≤◌, Bool, false, List, [], ◌∷◌, ◌++◌, length, take, drop, All, Option, Some, None, Result, Ok, pos, refl, sym, ap, ap₂, ◌∙◌, subst, inl, inr, arith, append-nil, length-take-le, length-append, mod-eq_of_lt, eq-eqb, ne_eqb, ⊎_elim, ◌%◌}
-use Rattle.std.specs.Prelude.{⊤}
+use Rattle.std.proofs.Common.{◌≡◌, ℕ, ◌+◌, ◌*◌, ◌-◌, ◌/◌, ◌^◌, ◌<◌, ◌≤◌, Bool, false, List, [], ◌∷◌, ◌++◌, length, take, All, Option, Ok, refl, sym, ap, ◌∙◌, subst, arith, append-nil, length-take-le, mod-eq_of_lt, ◌%◌}
 use Rattle.std.specs.Int.{w64, to_be_bytes, from_be_bytes}
-use Rattle.std.proofs.lemmas.Bool.{cases_lt}
 use Rattle.std.proofs.lemmas.Nat.{from_be_bytes-to_be_bytes_8, shl-shr, shl_below}
-use Rattle.std.proofs.lemmas.List.{take_at, drop_at}
 use Rattle.std.proofs.lemmas.List.Elements.{All-head, All-tail, All-take}
-use Rattle.deku_bits.specs.declared.ctx.Order.{Order}
 use Rattle.deku_bits.specs.declared.ctx.Order.TheVariants.{Msb0}
-use Rattle.deku_bits.specs.declared.error.DekuError.{DekuError}
 use Rattle.deku_bits.specs.Bits.{bits_of, byte_bits}
 use Rattle.deku_bits.specs.Devices.{KnownSource}
-use Rattle.deku_bits.specs.Standings.{Standing, Going, Stopped, reader_state}
-use Rattle.deku_bits.specs.Streams.{Stream, flow, left, taken, normal, Has}
+use Rattle.deku_bits.specs.Standings.{Standing, reader_state}
+use Rattle.deku_bits.specs.Streams.{Stream, flow}
 use Rattle.deku_bits.specs.Outcomes.{Value}
 use Rattle.deku_bits.specs.ReaderCalls.{ReadsAt, TakesBits, window_of}
 use Rattle.deku_bits.proofs.Bytes.{IsByte}
 use Rattle.deku_bits.proofs.Cuts.{length-byte_bits}
 use Rattle.deku_bits.proofs.EightBytes.{high_front, high_first_bytes}
 use Rattle.deku_bits.proofs.Handing.{meant}
-use Rattle.deku_bits.proofs.ReaderLaws.{taken_length}
-use Rattle.deku_bits.proofs.Taking.{cut_law}
 use Rattle.deku_num.specs.declared.ctx.Size.TheVariants.{Whole}
 use Rattle.deku_num.specs.declared.ctx.Layout.{Layout}
 use Rattle.deku_num.specs.Numbers.{byte}

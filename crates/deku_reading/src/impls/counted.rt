@@ -1,6 +1,6 @@
 //! Items that a count ends, read into a vector.
 
-ghost use Rattle.std.specs.Prelude.{◌≡◌, OnOk};
+ghost use Rattle.std.specs.Prelude.{◌≡◌, ◌++◌, ◌∷◌, [], OnOk};
 ghost use Rattle.deku_bits.specs.ReaderCalls.{Reads};
 ghost use Rattle.deku_reading.specs.Early.{NoReadAhead};
 ghost use Rattle.deku_reading.specs.Limits.{ReadsCount, MappedBy};
@@ -9,7 +9,11 @@ use crate::traits::DekuReader;
 use deku_bits::device::Source;
 use deku_bits::error::DekuError;
 use deku_bits::reader::Reader;
+use std::alloc::AllocFailed;
 use std::io::ErrorKind;
+
+// For how many items the first one makes room.
+const ROOM: usize = 8;
 
 /// Reads exactly this many items into a new vector. Those that are in memory may be read at once.
 ///
@@ -33,11 +37,23 @@ pub fn read_counted<T: DekuReader<C>, C: Copy, R: Source>(
         left -= T::try_read_onto(reader, &mut items, left, &ctx);
         if left > 0 {
             let item = T::from_reader_with_ctx(reader, ctx)?;
-            let Ok(()) = items.push(item) else {
+            let Ok(()) = push_item(&mut items, item, left) else {
                 return Err(DekuError::Io(ErrorKind::OutOfMemory));
             };
             left -= 1;
         }
     }
     Ok(items)
+}
+
+// Appends an item, with which this many are left. The first one makes room for a few of them, so
+// that a short vector is not moved.
+#[inline]
+fn push_item<T: Drop>(items: &mut Vec<T>, item: T, left: usize) -> Result<(), AllocFailed<T>>
+    ensures { OnOk result (items.new.items ≡ items.old.items ++ item ∷ []) }
+{
+    if items.is_empty() {
+        let _room = items.reserve(left.min(ROOM));
+    }
+    items.push(item)
 }

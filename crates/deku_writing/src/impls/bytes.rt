@@ -34,7 +34,7 @@ pub fn write_first_bytes<W: Sink>(writer: &mut Writer<W>, bytes: &[u8], layout: 
     written
 }
 
-// The same of at most eight bytes.
+// The same of at most eight bytes. Eight are one number, which is stored without a loop.
 #[inline(always)]
 fn write_first_eight<W: Sink>(writer: &mut Writer<W>, bytes: &[u8]) -> usize
     requires some { 0 < length bytes.now }
@@ -43,7 +43,24 @@ fn write_first_eight<W: Sink>(writer: &mut Writer<W>, bytes: &[u8]) -> usize
         (WritesEach (λ x. WritesNumber byte l (pos x)) (take result bytes.now)) writer.old (Ok tt)
         writer.new }
 {
-    let count = bytes.len().min(8);
+    if bytes.len() >= 8 {
+        write_first_few(writer, bytes, 8)
+    } else {
+        write_first_few(writer, bytes, bytes.len())
+    }
+}
+
+// The first `count` bytes if the sink has room for them in memory, or none.
+#[inline(always)]
+fn write_first_few<W: Sink>(writer: &mut Writer<W>, bytes: &[u8], count: usize) -> usize
+    requires some { 0 < count }
+    requires few { count ≤ 8 }
+    requires enough { count ≤ length bytes.now }
+    ensures few { result ≤ count }
+    ensures writes { (l : NumberLayout) → l.order ≡ Msb0 → l.size ≡ Whole → Writes W.known
+        (WritesEach (λ x. WritesNumber byte l (pos x)) (take result bytes.now)) writer.old (Ok tt)
+        writer.new }
+{
     let eight = padded(bytes, count);
     let number = u64::from_be_bytes(eight) >> (64 - 8 * count);
     if !writer.try_write_number(number, 8 * count, Order::Msb0) {

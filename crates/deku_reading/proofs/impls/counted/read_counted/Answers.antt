@@ -27,7 +27,7 @@ loop-left-preserved-then-left-gt0 g c =
     let run = c.try_read_onto-left.ensures.reads in
     let ys = c.try_read_onto-left.new.items.items in
     let known = g.R.Source.known in
-    let joined = c.in-Ok.ensures.items in
+    let joined = c.in-Ok.ensures in
     record {
       long = omega (arith, c.loop-left.invariant.long, appended_length run, c.if-left-gt0.true, ap length joined, length-append ys (c.in_ok-item.item ∷ []));
       far = subst (λ zs. SoFar (Stored (g.T.DekuReader.meaning c.args.ctx)) zs (reader_state (known c.args.reader.now.source).remaining c.args.reader.now.state) (known c.args.reader.now.source).health
