@@ -36,6 +36,8 @@ struct Card {
     #[deku(bits = 1, pad_bits_after = "5")]
     writes_part: bool,
     #[deku(bits = 1)]
+    format_group: bool,
+    #[deku(bits = 1)]
     copied: bool,
     #[deku(bits = 1)]
     locked: bool,
