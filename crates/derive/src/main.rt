@@ -12,42 +12,6 @@ use std::{env, fs, io};
 
 const ABOUT: &str = "Prints the module for records described in Rust with deku's attributes";
 
-// An option: its name, the name of its value if it has one, the options that it excludes, and its
-// help.
-const OPTIONS: [(&str, Option<&str>, &[&str], &str); 6] = [
-    (
-        "output",
-        Some("MODULE"),
-        &["check"],
-        "Writes the module there, and its proof beside src, if it needs one",
-    ),
-    (
-        "module",
-        Some("NAME::MODULE"),
-        &[],
-        "The crate and the module, for enums; -o crates/NAME/src/MODULE.rt gives them too",
-    ),
-    (
-        "check",
-        None,
-        &[],
-        "Says whether MODULE is what would be printed",
-    ),
-    (
-        "c",
-        None,
-        &["header"],
-        "Prints the records as C lays them out, with functions that C calls",
-    ),
-    ("header", None, &[], "Prints the header of these functions"),
-    (
-        "answers",
-        None,
-        &["c", "header"],
-        "Prints the proof that a module needs; its comment says for which file",
-    ),
-];
-
 fn main(rt: HostRuntime) -> io::Result<ExitCode> {
     let words: Vec<String> = env::args(&rt)?.collect(rt.alloc())?;
     let Ok(command) = command(rt.alloc()) else {
@@ -63,44 +27,59 @@ fn main(rt: HostRuntime) -> io::Result<ExitCode> {
     Ok(ExitCode::from(if run(&rt, &matches)? { 0 } else { 1 }))
 }
 
-fn command(alloc: Global) -> Result<Command<'static>, Error> {
+fn command<'a>(alloc: Global) -> Result<Command<'a>, Error> {
     let file = Arg::new(alloc, "FILE")
         .required(true)
         .help("The description; - is standard input");
-    let mut command = Command::new(alloc, "derive").about(ABOUT).arg(file)?;
-    command = command.arg(compared(alloc)?)?;
-    for (name, value, others, help) in &OPTIONS {
-        command = command.arg(option(alloc, name, *value, others)?.help(help))?;
-    }
-    Ok(command)
+    let module = Arg::new(alloc, "MODULE")
+        .requires_arg("check")?
+        .help("With --check, the module to compare");
+    let output = Arg::new(alloc, "output")
+        .short('o')
+        .long("output")
+        .value_name("MODULE")
+        .action(ArgAction::Set)
+        .conflicts_with("check")?
+        .help("Writes the module there, and its proof beside src, if it needs one");
+    let command = Command::new(alloc, "derive").about(ABOUT);
+    options(alloc, command.arg(file)?.arg(module)?.arg(output)?)
 }
 
-// The module that is compared.
-fn compared(alloc: Global) -> Result<Arg<'static>, AllocError> {
-    let module = Arg::new(alloc, "MODULE").help("With --check, the module to compare");
-    module.requires_arg("check")
-}
-
-// An option of this name. Beside `check` there has to be a module.
-fn option(
-    alloc: Global,
-    name: &'static str,
-    value: Option<&'static str>,
-    others: &[&'static str],
-) -> Result<Arg<'static>, AllocError> {
-    let mut option = Arg::new(alloc, name).long(name);
-    option = match value {
-        Some(value) => option.value_name(value).action(ArgAction::Set),
-        None => option.action(ArgAction::SetTrue),
-    };
-    for other in others {
-        option = option.conflicts_with(other)?;
-    }
-    match name {
-        "output" => Ok(option.short('o')),
-        "check" => option.requires_arg("MODULE"),
-        _ => Ok(option),
-    }
+// The command with the words that do not name files.
+fn options<'a>(alloc: Global, command: Command<'a>) -> Result<Command<'a>, Error> {
+    let path = Arg::new(alloc, "module")
+        .long("module")
+        .value_name("NAME::MODULE")
+        .action(ArgAction::Set)
+        .help("The crate and the module, for enums; -o crates/NAME/src/MODULE.rt gives them too");
+    let check = Arg::new(alloc, "check")
+        .long("check")
+        .action(ArgAction::SetTrue)
+        .requires_arg("MODULE")?
+        .help("Says whether MODULE is what would be printed");
+    let for_c = Arg::new(alloc, "c")
+        .long("c")
+        .action(ArgAction::SetTrue)
+        .conflicts_with("header")?
+        .help("Prints the records as C lays them out, with functions that C calls");
+    let header = Arg::new(alloc, "header")
+        .long("header")
+        .action(ArgAction::SetTrue)
+        .help("Prints the header of these functions");
+    let answers = Arg::new(alloc, "answers")
+        .long("answers")
+        .action(ArgAction::SetTrue)
+        .conflicts_with("c")?
+        .conflicts_with("header")?
+        .help("Prints the proof that a module needs; its comment says for which file");
+    Ok(
+        command
+            .arg(path)?
+            .arg(check)?
+            .arg(for_c)?
+            .arg(header)?
+            .arg(answers)?,
+    )
 }
 
 // Does what the words ask for. Whether it succeeded; if not, the error is printed.
