@@ -1,6 +1,7 @@
 //! Bytes that are in memory, read eight at a time.
 
-ghost use Rattle.std.specs.Prelude.{◌≡◌, ◌≤◌, ◌<◌, ◌+◌, ◌++◌, take, OnOk, OnErr};
+ghost use Rattle.std.specs.Prelude.{◌≡◌, ◌≤◌, ◌<◌, ◌+◌, ◌++◌};
+ghost use Rattle.std.specs.Prelude.{take, OnOk, OnErr};
 ghost use Rattle.std.specs.Vec.{vec_capacity, vec_len};
 ghost use Rattle.deku_bits.specs.declared.ctx.Order.TheVariants.{Msb0};
 ghost use Rattle.deku_num.specs.declared.ctx.Layout.{Layout as NumberLayout};
@@ -43,8 +44,8 @@ pub fn read_bytes_onto<R: Source>(
     most
 }
 
-// The same of at most eight bytes. It makes room for at most 64 of them. Eight are one number, which
-// is read and stored without a loop.
+// The same of at most eight bytes. It makes room for at most 64 of them. Eight are one number,
+// which is read and stored without a loop.
 #[inline(always)]
 fn read_eight_onto<R: Source>(reader: &mut Reader<R>, bytes: &mut Vec<u8>, most: usize) -> usize
     requires some { 0 < most }
